@@ -1,1 +1,7 @@
 pub mod Refusals
+pub mod Faults
+pub mod Times
+pub mod Spans
+pub mod Kinds
+pub mod Rows
+pub mod Events
