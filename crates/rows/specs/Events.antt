@@ -10,8 +10,8 @@ use Rattle.std.specs.declared.result.Result.{Result}
 use Rattle.std.specs.declared.result.Result.the-variants.{Ok, Err}
 use Rattle.rows.specs.declared.event.Event.{Event}
 use Rattle.rows.specs.declared.event.Event.the-variants.{Insert, Retraction, Cti}
-use Rattle.rows.specs.declared.refusal.Refusal.{Refusal}
-use Rattle.rows.specs.declared.refusal.Refusal.the-variants.{BadTime}
+use Rattle.refusals.specs.declared.refusal.Refusal.{Refusal}
+use Rattle.refusals.specs.declared.refusal.Refusal.the-variants.{BadTime}
 use Rattle.rows.specs.Kinds.{Pair}
 use Rattle.rows.specs.Rows.{Plain, plain-of, standing}
 use Rattle.rows.specs.Times.{finite, retractable}

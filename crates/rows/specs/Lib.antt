@@ -1,5 +1,3 @@
-pub mod Refusals
-pub mod Faults
 pub mod Times
 pub mod Spans
 pub mod Kinds

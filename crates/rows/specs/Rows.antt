@@ -13,8 +13,8 @@ use mathlib.Core.Bool.{Bool, cond, _&&_}
 use lib.Dec.{eqb}
 use Rattle.std.specs.declared.result.Result.{Result}
 use Rattle.std.specs.declared.result.Result.the-variants.{Ok, Err}
-use Rattle.rows.specs.declared.refusal.Refusal.{Refusal}
-use Rattle.rows.specs.declared.refusal.Refusal.the-variants.{BadPayload}
+use Rattle.refusals.specs.declared.refusal.Refusal.{Refusal}
+use Rattle.refusals.specs.declared.refusal.Refusal.the-variants.{BadPayload}
 use Rattle.rows.specs.declared.row.PlainRow.{PlainRow}
 use Rattle.rows.specs.declared.row.Row.{Row}
 use Rattle.rows.specs.Kinds.{Kind, Pair, in-range}

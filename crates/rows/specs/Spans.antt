@@ -10,8 +10,8 @@ use Rattle.std.specs.declared.option.Option.{Option}
 use Rattle.std.specs.declared.option.Option.the-variants.{Some, None}
 use Rattle.std.specs.declared.result.Result.{Result}
 use Rattle.std.specs.declared.result.Result.the-variants.{Ok, Err}
-use Rattle.rows.specs.declared.refusal.Refusal.{Refusal}
-use Rattle.rows.specs.declared.refusal.Refusal.the-variants.{BadTime}
+use Rattle.refusals.specs.declared.refusal.Refusal.{Refusal}
+use Rattle.refusals.specs.declared.refusal.Refusal.the-variants.{BadTime}
 use Rattle.rows.specs.declared.span.Span.{Span}
 use Rattle.rows.specs.Times.{lawful, retractable, whole}
 

@@ -3,7 +3,7 @@ ghost use mathlib.Core.Path.{_≡_};
 ghost use mathlib.Core.Bool.{true};
 ghost use Prim.Native.Nat.{ℕ, _≤_};
 ghost use Rattle.rows.specs.Kinds.{Kind, Pair, in-range, pair-made, made-pair};
-use crate::refusal::Refusal;
+use refusals::refusal::Refusal;
 
 // The last key: lockers are numbered from 0.
 pub const LAST_KEY: u32 = 9_999;

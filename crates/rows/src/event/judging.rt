@@ -3,7 +3,7 @@ ghost use mathlib.Core.Path.{_≡_};
 ghost use Rattle.rows.specs.Events.{plain-event, sync, times-judged};
 use crate::event::Event;
 use crate::payload::Payload;
-use crate::refusal::Refusal;
+use refusals::refusal::Refusal;
 use crate::span::times::is_finite;
 
 impl<P: Payload> Event<P> {

@@ -2,7 +2,7 @@
 ghost use mathlib.Core.Path.{_≡_};
 ghost use Rattle.rows.specs.Rows.{plain, plain-of, row-made, made-row};
 use crate::payload::Payload;
-use crate::refusal::Refusal;
+use refusals::refusal::Refusal;
 use crate::row::PlainRow;
 use crate::row::Row;
 

@@ -3,7 +3,7 @@ ghost use mathlib.Core.Path.{_≡_};
 ghost use mathlib.Core.Bool.{Bool};
 ghost use Rattle.rows.specs.Times.{finite, retractable};
 ghost use Rattle.rows.specs.Spans.{span-made, made-span, span-left, left-span};
-use crate::refusal::Refusal;
+use refusals::refusal::Refusal;
 use crate::span::FOREVER;
 use crate::span::LAST;
 use crate::span::Span;

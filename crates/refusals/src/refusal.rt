@@ -1,6 +1,6 @@
 // The refusals: every reason for which the engine turns something down.
 ghost use mathlib.Core.Path.{_≡_};
-ghost use Rattle.rows.specs.Refusals.{number-of};
+ghost use Rattle.refusals.specs.Refusals.{number-of};
 
 #[derive(Clone, Copy, PartialEq, Eq, Debug)]
 pub enum Refusal {

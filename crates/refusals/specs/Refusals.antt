@@ -1,8 +1,8 @@
 -- The refusals and their numbers.
 --     number-of r     the number under which the refusal r is told, 1 to 18
 use Prim.Native.Nat.{ℕ}
-use Rattle.rows.specs.declared.refusal.Refusal.{Refusal}
-use Rattle.rows.specs.declared.refusal.Refusal.the-variants.{TooLong, CutOff, BadByte, BadNumber, BadPayload, BadTime, OutOfTime, CtiViolated, IdInUse, NoSuchRow, OtherRow, StoreFull, NotYet, WindowsFull, LinesFull, BadWidth, BadRule, OutFull}
+use Rattle.refusals.specs.declared.refusal.Refusal.{Refusal}
+use Rattle.refusals.specs.declared.refusal.Refusal.the-variants.{TooLong, CutOff, BadByte, BadNumber, BadPayload, BadTime, OutOfTime, CtiViolated, IdInUse, NoSuchRow, OtherRow, StoreFull, NotYet, WindowsFull, LinesFull, BadWidth, BadRule, OutFull}
 
 abbrev pub number-of : Refusal → ℕ
 number-of TooLong = 1

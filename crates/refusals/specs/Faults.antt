@@ -5,9 +5,9 @@
 --     at-cti c f              the fault f, with c as the CTI that was violated
 use Prim.Native.Nat.{ℕ}
 use Rattle.std.specs.declared.option.Option.the-variants.{Some, None}
-use Rattle.rows.specs.declared.fault.Fault.{Fault}
-use Rattle.rows.specs.declared.fault.Side.{Side}
-use Rattle.rows.specs.declared.refusal.Refusal.{Refusal}
+use Rattle.refusals.specs.declared.fault.Fault.{Fault}
+use Rattle.refusals.specs.declared.fault.Side.{Side}
+use Rattle.refusals.specs.declared.refusal.Refusal.{Refusal}
 
 abbrev pub bare-fault : Refusal → Fault
 bare-fault r = record { refusal = r; side = None; depth = None; event = None; cti = None }

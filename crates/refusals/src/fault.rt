@@ -1,10 +1,12 @@
 // A fault: a refusal, and where it was met.
 ghost use mathlib.Core.Path.{_≡_};
-ghost use Rattle.rows.specs.Faults.{bare-fault, event-fault, on-side, at-cti};
+ghost use Rattle.refusals.specs.Faults.{bare-fault, event-fault, on-side, at-cti};
 use crate::refusal::Refusal;
 use crate::refusal::RefusalDebug;
 use crate::refusal::RefusalEq;
 use crate::refusal::RefusalPartialEq;
+
+pub mod printed;
 
 // The two inputs of a query.
 #[derive(Clone, Copy, PartialEq, Eq, Debug)]

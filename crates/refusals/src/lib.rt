@@ -1,0 +1,3 @@
+// The refusals that the engine tells, and the faults that say where one was met.
+pub mod fault;
+pub mod refusal;
