@@ -1,0 +1,9 @@
+pub mod Lists
+pub mod Sides
+pub mod Histories
+pub mod Joins
+pub mod Stores
+pub mod Queries
+pub mod Transcripts
+pub mod Laws
+pub mod Examples
