@@ -1,3 +1,4 @@
-// The refusals that the engine tells, and the faults that say where one was met.
+// The refusals that the engine tells, the faults that say where one was met, and how a source or a run ends.
+pub mod ending;
 pub mod fault;
 pub mod refusal;

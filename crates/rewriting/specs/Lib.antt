@@ -1,0 +1,5 @@
+pub mod Rules
+pub mod Streams
+pub mod Layers
+pub mod RowRules
+pub mod Laws

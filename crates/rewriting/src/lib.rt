@@ -1,0 +1,2 @@
+// Row rules, layers and piles as definitions, and their laws.
+pub mod laws;
