@@ -1,0 +1,2 @@
+// Stores: where a query keeps its rows.
+pub mod store;
