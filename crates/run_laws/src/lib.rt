@@ -1,0 +1,2 @@
+// The run as a definition, and its laws.
+pub mod laws;
