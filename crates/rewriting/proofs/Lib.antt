@@ -1,0 +1,10 @@
+mod Held
+mod Made
+mod Applied
+mod Images
+mod Agree
+mod Steps
+pub mod Layers
+pub mod Piles
+pub mod RowRules
+pub mod Over

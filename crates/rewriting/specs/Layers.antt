@@ -12,9 +12,10 @@ use lib.Dec.{eqb}
 use Rattle.refusals.specs.declared.ending.Ending.{Ending}
 use Rattle.refusals.specs.declared.ending.Ending.the-variants.{Failed}
 use Rattle.refusals.specs.declared.refusal.Refusal.{Refusal}
+use Rattle.refusals.specs.declared.refusal.Refusal.the-variants.{BadTime}
 use Rattle.refusals.specs.Faults.{event-fault}
 use Rattle.rows.specs.Rows.{Plain, with-end}
-use Rattle.rows.specs.Events.{PlainEvent, insert, retraction, cti}
+use Rattle.rows.specs.Events.{PlainEvent, insert, retraction, cti, timely}
 use Rattle.rows.specs.Times.{whole}
 use Rattle.receipts.specs.Histories.{Entry, events, history}
 use Rattle.rewriting.specs.Rules.{Image, refuses, nothing, to, Advance, denies, becomes, Rule, spanned}
@@ -50,10 +51,14 @@ of-cti (becomes t) = is-now (cti t)
 abbrev pub new-image : Rule → Plain → ℕ → Image
 new-image f r e = cond (whole (r .start) e) nothing (f .image (with-end e r))
 
+abbrev pub remade : Rule → PlainEvent → Rewritten
+remade f (insert r) = of-insert r (f .image r)
+remade f (retraction r e) = of-retraction r (f .image r) (new-image f r e)
+remade f (cti t) = of-cti (f .advance t)
+
+-- an event whose times are not lawful has no images: BadTime
 abbrev pub rewritten : Rule → PlainEvent → Rewritten
-rewritten f (insert r) = of-insert r (f .image r)
-rewritten f (retraction r e) = of-retraction r (f .image r) (new-image f r e)
-rewritten f (cti t) = of-cti (f .advance t)
+rewritten f e = cond (timely e) (remade f e) (refused BadTime)
 
 -- an event that is left keeps its number; the first refused event ends the list
 abbrev pub entries-from : Rewritten → ℕ → List Entry → List Entry
