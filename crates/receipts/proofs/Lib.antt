@@ -1,0 +1,15 @@
+pub mod Lists
+pub mod Sides
+pub mod Rows
+pub mod Histories
+pub mod Stores
+pub mod Joins
+pub mod Counts
+pub mod Cuts
+pub mod Calls
+pub mod Transcripts
+pub mod Halves
+pub mod Queries
+pub mod Windows
+pub mod Receipts
+pub mod Accounts

@@ -2,18 +2,15 @@
 use mathlib.Core.Path.{_≡_}
 use mathlib.Core.List.{List, [], _∷_}
 use Prim.Native.Nat.{ℕ}
-use Rattle.std.specs.declared.result.Result.the-variants.{Ok, Err}
-use Rattle.refusals.specs.declared.fault.Side.{Side}
 use Rattle.refusals.specs.declared.fault.Side.the-variants.{Left, Right}
 use Rattle.refusals.specs.declared.refusal.Refusal.the-variants.{CtiViolated, NotYet}
 use Rattle.refusals.specs.Faults.{bare-fault, on-side, at-cti}
 use Rattle.rows.specs.Kinds.{Kind}
 use Rattle.rows.specs.Rows.{Plain}
-use Rattle.rows.specs.Events.{PlainEvent, insert, retraction, cti}
-use Rattle.receipts.specs.declared.line.Line.{Line}
+use Rattle.rows.specs.Events.{insert, retraction, cti}
 use Rattle.receipts.specs.declared.window.Window.{Window}
 use Rattle.receipts.specs.Lists.{each}
-use Rattle.receipts.specs.Sides.{Both, twice}
+use Rattle.receipts.specs.Sides.{twice}
 use Rattle.receipts.specs.Queries.{Setup, new-query, Call, event, closing, Answer, accepted, closed, refused}
 use Rattle.receipts.specs.Transcripts.{transcript}
 

@@ -7,7 +7,7 @@
 --     Permitted c rows e          a legal list may go on with e, where c is the latest CTI before it and rows the history so far
 --     Legal es                    each event in turn is permitted, and its times are lawful
 use mathlib.Core.Path.{_≡_}
-use mathlib.Core.Bool.{Bool, true, cond}
+use mathlib.Core.Bool.{true, cond}
 use mathlib.Core.List.{List, [], _∷_}
 use Prim.Native.Nat.{ℕ, _≤_, min}
 use lib.Dec.{ltb}

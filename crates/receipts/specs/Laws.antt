@@ -20,7 +20,7 @@ use Rattle.receipts.specs.Histories.{up-to}
 use Rattle.receipts.specs.Joins.{count-in, Exactly}
 use Rattle.receipts.specs.Lists.{In, SameMembers, total, tally, each}
 use Rattle.receipts.specs.Queries.{Setup, QueryState, new-query, Call}
-use Rattle.receipts.specs.Sides.{Both, pick}
+use Rattle.receipts.specs.Sides.{pick}
 use Rattle.receipts.specs.Transcripts.{Exchange, transcript, after, events-on, histories, lines-in, windows-in}
 
 -- the calls on a new query with their answers, and the state that they leave
@@ -81,7 +81,7 @@ purged-on Left w = w .«purged_left»
 purged-on Right w = w .«purged_right»
 
 abbrev pub Accounts-balance : Type 0
-Accounts-balance = (s : Setup) (cs : List Call) → 0 < s .width →
+Accounts-balance = (s : Setup) (cs : List Call) →
     ((x : Side) →
         tally inserts (events-on x (record-of s cs))
         ≡ tally takes-whole (events-on x (record-of s cs))
@@ -92,6 +92,5 @@ Accounts-balance = (s : Setup) (cs : List Call) → 0 < s .width →
     × (total (λ w. w .lines) (windows-in (record-of s cs)) ≡ length (lines-in (record-of s cs)))
 
 abbrev pub Rows-sound : Type 0
-Rows-sound = (s : Setup) (cs : List Call) → 0 < s .width →
-    (x : Side) (r : Plain) → In r (pick x (histories (record-of s cs))) →
+Rows-sound = (s : Setup) (cs : List Call) (x : Side) (r : Plain) → In r (pick x (histories (record-of s cs))) →
     (standing r ≡ true) × (in-kind (pick x (s .kinds)) r ≡ true)

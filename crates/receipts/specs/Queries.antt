@@ -10,7 +10,7 @@
 --     Call, Answer                a call on a query, and what it answers
 --     called s q c                what the call c answers, and the state that it leaves
 use mathlib.Core.Bool.{Bool, true, cond}
-use mathlib.Core.List.{List, [], _∷_}
+use mathlib.Core.List.{List, []}
 use Prim.Native.Nat.{ℕ, _+_, min}
 use lib.Dec.{leb, eqb}
 use lib.ListN.{length}
@@ -31,7 +31,7 @@ use Rattle.rows.specs.Times.{whole}
 use Rattle.receipts.specs.declared.line.Line.{Line}
 use Rattle.receipts.specs.declared.window.Window.{Window}
 use Rattle.receipts.specs.Joins.{lines-before, count-in}
-use Rattle.receipts.specs.Sides.{Both, pick, put, twice}
+use Rattle.receipts.specs.Sides.{Both, pick, put, twice, mapped}
 use Rattle.receipts.specs.Stores.{Outcome, accept, refuse, found, adds, sets, removes, kept, gone}
 
 pub record Setup : Type 0 where
@@ -92,7 +92,7 @@ abbrev pub may-close : Setup → QueryState → Bool
 may-close s q = leb (window-end s q) (min (q .halves .left .cti) (q .halves .right .cti))
 
 abbrev pub held-rows : QueryState → Both (List Plain)
-held-rows q = record { left = q .halves .left .held; right = q .halves .right .held }
+held-rows q = mapped (λ h. h .held) (q .halves)
 
 abbrev pub closing-lines : Setup → QueryState → List Line
 closing-lines s q = lines-before (s .kinds) (window-end s q) (held-rows q)
@@ -110,10 +110,7 @@ abbrev pub purged : ℕ → Half → Half
 purged g h = record { cti = h .cti; held = kept g (h .held) }
 
 abbrev pub closed-once : Setup → QueryState → QueryState
-closed-once s q = record {
-  closed = window-end s q;
-  halves = record { left = purged (window-end s q) (q .halves .left); right = purged (window-end s q) (q .halves .right) }
-}
+closed-once s q = record { closed = window-end s q; halves = mapped (purged (window-end s q)) (q .halves) }
 
 -- Calls --------------------------------------------------------------------------------------------
 

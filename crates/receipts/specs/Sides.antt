@@ -3,6 +3,7 @@
 --     pick s b                    the one of the side s
 --     put s x b                   b with x on the side s
 --     twice x                     x on both sides
+--     mapped f b                  f of the one of each side
 use Rattle.refusals.specs.declared.fault.Side.{Side}
 use Rattle.refusals.specs.declared.fault.Side.the-variants.{Left, Right}
 
@@ -20,3 +21,6 @@ put Right x b = record { left = b .left; right = x }
 
 abbrev pub twice : {X : Type 0} → X → Both X
 twice x = record { left = x; right = x }
+
+abbrev pub mapped : {X Y : Type 0} → (X → Y) → Both X → Both Y
+mapped f b = record { left = f (b .left); right = f (b .right) }

@@ -11,7 +11,7 @@
 --     adds capacity r rows        adding r: IdInUse where its id is held, else StoreFull at capacity
 --     sets id e rows              setting an end: NoSuchRow, or BadTime where the held row may not have it
 --     removes id rows             removing a row: NoSuchRow
-use mathlib.Core.Bool.{Bool, true, false, cond, _||_}
+use mathlib.Core.Bool.{Bool, false, cond, _||_}
 use mathlib.Core.List.{List, [], _∷_}
 use Prim.Native.Nat.{ℕ, zero, suc, _<_}
 use lib.Dec.{leb, ltb, eqb}

@@ -48,8 +48,12 @@ event-on Right (closing n) = []
 event-on Left (question a) = []
 event-on Right (question a) = []
 
+-- the event that an exchange accepted on the side x
+abbrev pub event-in : Side → Exchange → List PlainEvent
+event-in x t = cond (accepts (t .1)) (event-on x (t .0)) []
+
 abbrev pub events-on : Side → List Exchange → List PlainEvent
-events-on x ts = gathered (λ t. cond (accepts (t .1)) (event-on x (t .0)) []) ts
+events-on x ts = gathered (event-in x) ts
 
 abbrev pub histories : List Exchange → Both (List Plain)
 histories ts = record { left = history (events-on Left ts); right = history (events-on Right ts) }

@@ -1,6 +1,6 @@
 mod Held
-mod Made
-mod Applied
+mod FilterMap
+mod Events
 mod Images
 mod Agree
 mod Steps

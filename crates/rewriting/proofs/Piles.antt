@@ -8,9 +8,9 @@ use Rattle.receipts.specs.Lists.{SameMembers}
 use Rattle.rewriting.specs.Rules.{Rule, Keeps, AllKeep}
 use Rattle.rewriting.specs.Streams.{Stream}
 use Rattle.rewriting.specs.Layers.{layer, pile, images, through}
-use Rattle.rewriting.specs.Laws.{history-of, LegalWith, Piles-lawful, Piles-grow}
+use Rattle.rewriting.specs.Laws.{history-of, Piles-lawful, Piles-grow}
 use Rattle.rewriting.proofs.Held.{distinct-once}
-use Rattle.rewriting.proofs.Applied.{history-distinct}
+use Rattle.rewriting.proofs.Events.{history-distinct}
 use Rattle.rewriting.proofs.Images.{images-same}
 use Rattle.rewriting.proofs.Layers.{layers-lawful, layer-end}
 

@@ -3,3 +3,4 @@ pub mod Streams
 pub mod Layers
 pub mod RowRules
 pub mod Laws
+pub mod Examples

@@ -10,7 +10,7 @@ use Rattle.refusals.specs.declared.refusal.Refusal.the-variants.{OutOfTime}
 use Rattle.rows.specs.Kinds.{Kind}
 use Rattle.rows.specs.Rows.{Plain}
 use Rattle.rows.specs.Times.{finite, forever}
-use Rattle.rewriting.specs.Rules.{Image, refuses, nothing, to, Advance, denies, becomes, Rule}
+use Rattle.rewriting.specs.Rules.{Image, refuses, nothing, to, denies, becomes, Rule}
 
 abbrev pub selected : Kind → ℕ → ℕ → ℕ → ℕ → Plain → Bool
 selected k low high least most r =

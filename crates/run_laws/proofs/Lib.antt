@@ -1,0 +1,13 @@
+pub mod Sides
+pub mod Appended
+pub mod Told
+pub mod Turns
+pub mod RunsMade
+pub mod Whole
+pub mod SameRows
+pub mod LastCtis
+pub mod RunsExact
+pub mod RunsAccounted
+pub mod RunsDetermined
+pub mod RunsStand
+pub mod HallLawful

@@ -1,15 +1,24 @@
 -- The laws of runs.
+--     events-of x srcs            the events of the side x's stream
 --     Made s srcs a               the report a comes of calls on a new query, whose accepted events are, side for side, the first
 --                                 of both streams; at END all of them, and no closing is allowed any more
+--     piled fs srcs               both streams, each under its side's rules
+--     rewritten-histories fs srcs both streams' histories, each put through its side's rules
+--     Lawful fs srcs              both streams are legal, and all rules keep their laws
+--     Counted hs ws               each count in the window records ws is that of the join of the histories hs
+--     last-ctis srcs              the lower of the last CTIs of both streams
+--     Accounted s srcs a          inserts = rows taken away whole + rows purged + rows held; all that may be closed is closed
+--     Stands s fs srcs a          the report a over streams under piles is made, exact, counted and accounted for
+-- The laws:
 --     Runs-made                   every run's report is made so, with fault or without
 --     Runs-exact                  a run over legal streams under piles that ends without fault hands out exactly the lines of the
 --                                 rewritten histories' join that end before its closed time, each once
 --     Runs-counted                its window counts are those of the rewritten histories' join
---     Runs-accounted              its inserts = rows taken away whole + rows purged + rows held; it has closed all it may
---     Runs-determined             its lines and counts depend on the rewritten histories up to its closed time alone
+--     Runs-accounted              a run over any streams that ends without fault is accounted for
+--     Runs-determined             a run's lines and counts depend on the rewritten histories up to its closed time alone
 --     Runs-stand                  the first four together, of the run itself
 use mathlib.Core.Path.{_≡_}
-use mathlib.Core.Bool.{Bool, false}
+use mathlib.Core.Bool.{false}
 use mathlib.Core.List.{List, [], _∷_, _++_}
 use Prim.Native.Nat.{ℕ, _+_, _*_, _≤_, _<_, min}
 use lib.ListN.{length}
@@ -57,7 +66,6 @@ rewritten-histories fs srcs = record {
   left = rewritten-history (fs .left) (srcs .left); right = rewritten-history (fs .right) (srcs .right)
 }
 
--- both streams are legal, and all rules keep their laws
 abbrev pub Lawful : Both (List Rule) → Both Stream → Type 0
 Lawful fs srcs = (x : Side) → Legal (events-of x srcs) × AllKeep (pick x fs)
 
@@ -66,25 +74,32 @@ Runs-exact = (s : Setup) (fs : Both (List Rule)) (srcs : Both Stream) (a : Repor
     Lawful fs srcs → Made s (piled fs srcs) a → a .ending ≡ End →
     Exactly (s .kinds) (a .closed) (rewritten-histories fs srcs) (a .lines)
 
+abbrev pub Counted : Both (List Plain) → List Window → Type 0
+Counted hs ws = (w : Window) → In w ws → w .count ≡ count-in (w .start) (w .end) hs
+
 abbrev pub Runs-counted : Type 0
 Runs-counted = (s : Setup) (fs : Both (List Rule)) (srcs : Both Stream) (a : Report) → 0 < s .width →
     Lawful fs srcs → Made s (piled fs srcs) a → a .ending ≡ End →
-    (w : Window) → In w (a .windows) → w .count ≡ count-in (w .start) (w .end) (rewritten-histories fs srcs)
+    Counted (rewritten-histories fs srcs) (a .windows)
 
+-- c where there is none
 abbrev pub last-cti : ℕ → List PlainEvent → ℕ
 last-cti c [] = c
 last-cti c (e ∷ es) = last-cti (cti-after c e) es
 
--- the lower of the last CTIs of both streams
 abbrev pub last-ctis : Both Stream → ℕ
 last-ctis srcs = min (last-cti 0 (events (srcs .left .entries))) (last-cti 0 (events (srcs .right .entries)))
 
+-- one more window would end above the lower of the last CTIs
+pub record Accounted (s : Setup) (srcs : Both Stream) (a : Report) : Type 0 where
+  pub balance : (x : Side) →
+    tally inserts (events-of x srcs) ≡ tally takes-whole (events-of x srcs) + total (purged-on x) (a .windows) + pick x (a .held)
+  pub windows : a .closed ≡ s .width * length (a .windows)
+  pub reached : a .closed ≤ last-ctis srcs
+  pub no-more : last-ctis srcs < a .closed + s .width
+
 abbrev pub Runs-accounted : Type 0
-Runs-accounted = (s : Setup) (srcs : Both Stream) (a : Report) → 0 < s .width → Made s srcs a → a .ending ≡ End →
-    ((x : Side) → tally inserts (events-of x srcs) ≡ tally takes-whole (events-of x srcs) + total (purged-on x) (a .windows) + pick x (a .held))
-    × (a .closed ≡ s .width * length (a .windows))
-    × (a .closed ≤ last-ctis srcs)
-    × (last-ctis srcs < a .closed + s .width)
+Runs-accounted = (s : Setup) (srcs : Both Stream) (a : Report) → Made s srcs a → a .ending ≡ End → Accounted s srcs a
 
 -- Two runs of one width and the same payload kinds, over any streams, rules, capacities and places, that come to one closed
 -- time: where side for side the rewritten histories up to it have the same rows, lines and counts are equal, each in order.
@@ -97,10 +112,15 @@ Runs-determined = (s t : Setup) (fs gs : Both (List Rule)) (srcs others : Both S
         (up-to (a .closed) (pick x (rewritten-histories gs others)))) →
     (a .lines ≡ b .lines) × (each (λ w. w .count) (a .windows) ≡ each (λ w. w .count) (b .windows))
 
+-- The run itself ------------------------------------------------------------------------------------
+
+pub record Stands (s : Setup) (fs : Both (List Rule)) (srcs : Both Stream) (a : Report) : Type 0 where
+  pub made : Made s (piled fs srcs) a
+  pub exact : Exactly (s .kinds) (a .closed) (rewritten-histories fs srcs) (a .lines)
+  pub counted : Counted (rewritten-histories fs srcs) (a .windows)
+  pub accounted : Accounted s (piled fs srcs) a
+
 -- A run over any two legal streams, each under any pile of rules that keep their laws, which ends without fault.
 abbrev pub Runs-stand : Type 0
 Runs-stand = (s : Setup) (p : Places) (fs : Both (List Rule)) (srcs : Both Stream) → 0 < s .width →
-    Lawful fs srcs → run s p (piled fs srcs) .ending ≡ End →
-    Exactly (s .kinds) (run s p (piled fs srcs) .closed) (rewritten-histories fs srcs) (run s p (piled fs srcs) .lines)
-    × ((w : Window) → In w (run s p (piled fs srcs) .windows) → w .count ≡ count-in (w .start) (w .end) (rewritten-histories fs srcs))
-    × Made s (piled fs srcs) (run s p (piled fs srcs))
+    Lawful fs srcs → run s p (piled fs srcs) .ending ≡ End → Stands s fs srcs (run s p (piled fs srcs))

@@ -27,7 +27,7 @@ use Rattle.receipts.specs.declared.line.Line.{Line}
 use Rattle.receipts.specs.declared.window.Window.{Window}
 use Rattle.receipts.specs.Histories.{Entry}
 use Rattle.receipts.specs.Queries.{Setup, Half, QueryState, new-query, taken, may-close, closing-lines, closing-window, closed-once, event-refused}
-use Rattle.receipts.specs.Sides.{Both, pick, put, twice}
+use Rattle.receipts.specs.Sides.{Both, pick, put, twice, mapped}
 use Rattle.receipts.specs.Stores.{Outcome}
 use Rattle.rewriting.specs.Streams.{Stream}
 
@@ -100,18 +100,25 @@ abbrev pub heard : Setup → Places → Side → ℕ → Entry → Half → RunS
 heard s p side depth e h old new (Ok u) = after-event s p (run-fault side depth (e .0)) (e .1) new
 heard s p side depth e h old new (Err why) = stops old (located depth (e .0) (event-refused side h why))
 
+-- what a side answers to an event, and what it leaves
+abbrev pub outcome : Setup → RunState → Side → PlainEvent → Outcome Half
+outcome s x side e = taken (pick side (s .kinds)) (pick side (s .capacity)) e (pick side (x .query .halves))
+
 abbrev pub taking : Setup → Places → Side → ℕ → Entry → List Entry → Half → Outcome Half → RunState → Turn
 taking s p side depth e es h o x = heard s p side depth e h x (with-side side (o .after) es x) (o .answer)
 
+-- the state with a side ended
+abbrev pub over-on : Side → RunState → RunState
+over-on side x = record { query = x .query; rest = x .rest; over = put side true (x .over); lines = x .lines; windows = x .windows }
+
 abbrev pub ended : Side → Ending → RunState → Turn
-ended side End x = goes-on (record { query = x .query; rest = x .rest; over = put side true (x .over); lines = x .lines; windows = x .windows })
+ended side End x = goes-on (over-on side x)
 ended side (Failed f) x = stops x (on-side side f)
 
 abbrev pub take-from : Setup → Places → Both Stream → RunState → Side → List Entry → Turn
 take-from s p srcs x side [] = ended side (pick side srcs .ending) x
 take-from s p srcs x side (e ∷ es) =
-    taking s p side (pick side srcs .depth) e es (pick side (x .query .halves))
-        (taken (pick side (s .kinds)) (pick side (s .capacity)) (e .1) (pick side (x .query .halves))) x
+    taking s p side (pick side srcs .depth) e es (pick side (x .query .halves)) (outcome s x side (e .1)) x
 
 -- the left where it has not ended and either the right has, or the left CTI is not above the right one
 abbrev pub next-side : RunState → Side
@@ -126,7 +133,7 @@ turn s p srcs x = take-from s p srcs x (next-side x) (pick (next-side x) (x .res
 abbrev pub report : RunState → Ending → Report
 report x w = record {
   lines = x .lines; windows = x .windows; closed = x .query .closed;
-  held = record { left = length (x .query .halves .left .held); right = length (x .query .halves .right .held) };
+  held = mapped (λ h. length (h .held)) (x .query .halves);
   ending = w
 }
 
@@ -142,8 +149,7 @@ ran s p srcs (suc n) x =
 
 abbrev pub started : Both Stream → RunState
 started srcs = record {
-  query = new-query; rest = record { left = srcs .left .entries; right = srcs .right .entries };
-  over = twice false; lines = []; windows = []
+  query = new-query; rest = mapped (λ src. src .entries) srcs; over = twice false; lines = []; windows = []
 }
 
 -- each turn takes an event or an ending, so that these turns are enough

@@ -1,0 +1,10 @@
+pub mod Cursor
+pub mod Halves
+pub mod Places
+pub mod Edits
+pub mod Order
+pub mod Lengths
+pub mod Outcomes
+pub mod Plains
+pub mod Spans
+pub mod Shifts

@@ -1,2 +1,3 @@
 // Stores: where a query keeps its rows.
+pub mod search;
 pub mod store;

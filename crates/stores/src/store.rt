@@ -58,6 +58,25 @@ pub trait Store: Sized {
     fn first_from(&self, id: u32) -> Option<PlainRow>
         ensures { λ r. ⌜ seen r ≡ first-from id (rows (now (self .entry))) ⌝ };
 
+    // The row at a place in id order.
+    fn row_at(&self, place: usize) -> Option<PlainRow>
+        ensures { λ r. ⌜ seen r ≡ nth-row place (rows (now (self .entry))) ⌝ }
+    {
+        let mut from = 0;
+        for _passed in 0..place {
+            match self.first_from(from) {
+                None => return None,
+                Some(row) => {
+                    if row.id == u32::MAX {
+                        return None;
+                    }
+                    from = row.id + 1;
+                }
+            }
+        }
+        self.first_from(from)
+    }
+
     // Adds a row: IdInUse where its id is held, else StoreFull at capacity.
     fn add(&mut self, id: u32, span: Span, key: u32, value: u32) -> Result<(), Refusal>
         ensures { λ r. ⌜ outcome r (rows (now (self .exit))) ≡ adds capacity (row-of id span key value) (rows (now (self .entry))) ⌝ };

@@ -1,0 +1,4 @@
+pub mod Ended
+pub mod Shorter
+pub mod Lines
+pub mod Taking
