@@ -2,6 +2,8 @@
 ghost use mathlib.Core.Path.{_≡_};
 ghost use Rattle.refusals.specs.Refusals.{number-of};
 
+pub mod worded;
+
 #[derive(Clone, Copy, PartialEq, Eq, Debug)]
 pub enum Refusal {
     TooLong,

@@ -1,5 +1,6 @@
 // Reads shelf numbers from standard input, one to a line, and prints what each weighs.
 use refusals::fault::printed::FaultDisplay;
+use refusals::refusal::worded::RefusalDisplay;
 use std::error::AnyError;
 use std::io::Read;
 use weighing::input::LONGEST;
@@ -16,8 +17,10 @@ fn main(rt: LibcRuntime) -> Result<(), AnyError> {
     match report.fault {
         None => Ok(()),
         Some(fault) => {
+            let line = fault.event.unwrap_or(0);
+            let why = fault.refusal;
             println!(rt, "{fault}")?;
-            eprintln!(rt, "weigh: the input is refused; the last line of the output says why and at which line.")?;
+            eprintln!(rt, "weigh: line {line}: {why}")?;
             Err("the input is refused".into())
         }
     }

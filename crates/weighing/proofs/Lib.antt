@@ -1,4 +1,5 @@
 pub mod Ended
-pub mod Shorter
+pub mod Read
 pub mod Lines
 pub mod Taking
+pub mod Exactness

@@ -11,7 +11,7 @@ use Rattle.refusals.specs.declared.refusal.Refusal.{Refusal}
 use Rattle.weighing.specs.declared.weighed.Weighed.{Weighed}
 use Rattle.weighing.specs.Lines.{line-read}
 use Rattle.weighing.specs.Inputs.{Outcome, stopped, led, after-line, lines-in, lines-from}
-use Rattle.weighing.proofs.Shorter.{line-shorter}
+use Rattle.weighing.proofs.Read.{line-shorter}
 
 after-same : (n : ℕ) (bs : List ℕ) (go on : List ℕ → Outcome) → ((rest : List ℕ) → length rest < length bs → go rest ≡ on rest)
     → (r : Result (Weighed × List ℕ) Refusal) → line-read bs ≡ r → after-line n r go ≡ after-line n r on

@@ -15,7 +15,7 @@ use Rattle.weighing.specs.Lines.{line-read}
 use Rattle.weighing.specs.Inputs.{Outcome, led, lines-from}
 use Rattle.weighing.proofs.Lines.{lines-more, lines-refused, lines-none}
 
-abbrev reported : Option Fault → List Weighed → Outcome
+abbrev pub reported : Option Fault → List Weighed → Outcome
 reported f ws = record { weighed = ws; fault = f }
 
 pub one-taken : (ws more : List Weighed) (n : ℕ) (bs rest : List ℕ) (w : Weighed) (o : Outcome) → led ws (lines-from n bs) ≡ o

@@ -4,6 +4,7 @@ ghost use Prim.Native.Nat.{_≤_};
 ghost use lib.ListN.{length};
 ghost use Rattle.std.specs.Vec.{made};
 ghost use Rattle.weighing.specs.Inputs.{outcome, lines-from, input-weighed};
+ghost use Rattle.weighing.specs.Exact.{Input-exact};
 use crate::line::weigh_line;
 use crate::weighed::Weighed;
 use refusals::fault::Fault;
@@ -44,12 +45,21 @@ fn weigh_lines(heap: Global, bytes: &[u8]) -> Result<Report, AllocError>
     Ok(Report { weighed, fault: None })
 }
 
-// Weighs an input; one that is too long is refused at its first line.
-pub fn weigh_all(heap: Global, bytes: &[u8]) -> Result<Report, AllocError>
+// Weighs the lines, or refuses an input that is too long at its first line.
+fn weigh_input(heap: Global, bytes: &[u8]) -> Result<Report, AllocError>
     ensures { λ r. ⌜ made r (λ report. outcome report ≡ input-weighed (now (bytes .entry))) ⌝ }
 {
     if bytes.len() > LONGEST {
         return Ok(Report { weighed: Vec::new(heap), fault: Some(Fault::at_event(Refusal::TooLong, 0, 1)) });
     }
     weigh_lines(heap, bytes)
+}
+
+// Weighs an input, as the numbers that it is, one to a line. It is weighed with no fault just where it is readings, each
+// printed in decimal with a line feed after it, in at most 65,536 bytes.
+pub fn weigh_all(heap: Global, bytes: &[u8]) -> Result<Report, AllocError>
+    ensures value { λ r. ⌜ made r (λ report. outcome report ≡ input-weighed (now (bytes .entry))) ⌝ }
+    ensures exact { λ _. ⌜ Input-exact (now (bytes .entry)) ⌝ }
+{
+    weigh_input(heap, bytes)
 }

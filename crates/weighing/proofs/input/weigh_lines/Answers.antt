@@ -4,7 +4,7 @@ use native.Mathlib.Omega.{arith}
 use Prim.Native.Nat.{_<_}
 use lib.ListN.{length}
 use Rattle.std.specs.Of.Vec.{vec-items}
-use Rattle.weighing.proofs.Shorter.{line-shorter}
+use Rattle.weighing.proofs.Read.{line-shorter}
 use Rattle.weighing.proofs.Taking.{one-taken, one-refused, all-taken}
 use Rattle.weighing.proofs.input.weigh_lines.Needs as need
 
