@@ -10,7 +10,8 @@ module _ (s : Setup) where
   after-more q [] c = refl
   after-more q (d ∷ cs) c = after-more (called s q d .after) cs c
 
-  transcript-more : (q : QueryState) (cs : List Call) (c : Call) → transcript s q (cs ++ (c ∷ [])) ≡ transcript s q cs ++ ((c, called s (after s q cs) c .answer) ∷ [])
+  transcript-more : (q : QueryState) (cs : List Call) (c : Call) →
+      transcript s q (cs ++ (c ∷ [])) ≡ transcript s q cs ++ ((c, called s (after s q cs) c .answer) ∷ [])
   transcript-more q [] c = refl
   transcript-more q (d ∷ cs) c = ap (λ ts. (d, called s q d .answer) ∷ ts) (transcript-more (called s q d .after) cs c)
 

@@ -38,7 +38,8 @@ right-legal =
     ((refl, omega arith, tt),
     ((refl, omega arith, inl refl),
     ((refl, omega arith, free 2 moved [] (λ e. omega (arith, e)) (none 2)),
-    ((refl, omega arith, free 3 (row 2 90 forever 7 1000) (moved ∷ []) (λ e. omega (arith, e)) (free 3 moved [] (λ e. omega (arith, e)) (none 3))),
+    ((refl, omega arith,
+      free 3 (row 2 90 forever 7 1000) (moved ∷ []) (λ e. omega (arith, e)) (free 3 moved [] (λ e. omega (arith, e)) (none 3))),
     ((refl, omega arith, tt),
     tt))))))
 

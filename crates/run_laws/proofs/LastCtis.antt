@@ -9,11 +9,11 @@ use Rattle.receipts.specs.Histories.{cti-after}
 use Rattle.receipts.specs.Laws.{record-of, left-by, closed-time-of}
 use Rattle.receipts.specs.Queries.{Setup, Half, QueryState, new-query, window-end, purged, Call}
 use Rattle.receipts.specs.Sides.{pick}
-use Rattle.receipts.specs.Transcripts.{Exchange, events-on}
+use Rattle.receipts.specs.Transcripts.{events-on}
 use Rattle.receipts.proofs.Calls.{half-after}
 use Rattle.receipts.proofs.Queries.{faithful}
 use Rattle.receipts.proofs.Sides.{put-keeps, mapped-all}
-use Rattle.receipts.proofs.Transcripts.{Ledger, ledger, Kept, always}
+use Rattle.receipts.proofs.Transcripts.{Ledger, ledger, side-events, Invariant, always}
 use Rattle.run_laws.specs.Laws.{last-cti}
 
 last-cti-more : (c : ℕ) (es : List PlainEvent) (e : PlainEvent) → last-cti c (es ++ (e ∷ [])) ≡ cti-after (last-cti c es) e
@@ -28,12 +28,12 @@ half-cti (cti t) h = refl
 abbrev AtLast : QueryState → Ledger → Type 0
 AtLast q l = (x : Side) → pick x (q .halves) .cti ≡ last-cti 0 (pick x (l .events))
 
-new-at-last : AtLast new-query (ledger [])
-new-at-last Left = refl
-new-at-last Right = refl
+new-last : AtLast new-query (ledger [])
+new-last Left = refl
+new-last Right = refl
 
-kept-at-last : (s : Setup) → Kept s AtLast
-kept-at-last s = record {
+last-invariant : (s : Setup) → Invariant s AtLast
+last-invariant s = record {
   by-event = λ q l x e _ last.
     let h : Half = pick x (q .halves) in
     let es : List PlainEvent = pick x (l .events) in
@@ -42,12 +42,8 @@ kept-at-last s = record {
   by-closing = λ q l _ last. mapped-all (λ x half. half .cti ≡ last-cti 0 (pick x (l .events))) (purged (window-end s q)) (q .halves) last
 }
 
-pick-ledger : (ts : List Exchange) (x : Side) → pick x (ledger ts .events) ≡ events-on x ts
-pick-ledger ts Left = refl
-pick-ledger ts Right = refl
-
 pub cti-last : (s : Setup) (cs : List Call) (x : Side) → pick x (left-by s cs .halves) .cti ≡ last-cti 0 (events-on x (record-of s cs))
-cti-last s cs x = always s AtLast (kept-at-last s) new-at-last cs x ∙ ap (last-cti 0) (pick-ledger (record-of s cs) x)
+cti-last s cs x = always s AtLast (last-invariant s) new-last cs x ∙ ap (last-cti 0) (side-events (record-of s cs) x)
 
 pub closed-below : (s : Setup) (cs : List Call) (x : Side) → closed-time-of s cs ≤ pick x (left-by s cs .halves) .cti
 closed-below s cs x = faithful s cs x .above

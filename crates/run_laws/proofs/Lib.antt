@@ -1,4 +1,5 @@
 pub mod Sides
+pub mod TurnsLeft
 pub mod Appended
 pub mod Told
 pub mod Turns

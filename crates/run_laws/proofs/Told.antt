@@ -25,6 +25,7 @@ use Rattle.run_laws.specs.Laws.{events-of}
 use Rattle.run_laws.proofs.Appended.{left-by-more, record-more}
 use Rattle.run_laws.proofs.Sides.{pick-twice, each-put}
 
+-- what the calls accepted of a side, and what it has left, are its whole stream; a side that is over has nothing left
 pub record Told (s : Setup) (srcs : Both Stream) (x : RunState) : Type 0 where
   pub calls : List Call
   pub query : left-by s calls ≡ x .query
@@ -45,9 +46,12 @@ event-brings Left Right rest e es r = refl
 event-brings Right Left rest e es r = refl
 event-brings Right Right rest e es r = sym (ap events r)
 
+-- with places for its lines, a closing that is allowed is made
 closes : (s : Setup) (q : QueryState) → may-close s q ≡ true →
     on-closing s (length (closing-lines s q)) q ≡ record { answer = closed (closing-window s q) (closing-lines s q); after = closed-once s q }
-closes s q t = cond-true (may-close s q) _ _ t ∙ cond-true (leb (length (closing-lines s q)) (length (closing-lines s q))) _ _ (le-leb _ _ (omega arith))
+closes s q may =
+    let n : ℕ = length (closing-lines s q) in
+    cond-true (may-close s q) _ _ may ∙ cond-true (leb n n) _ _ (le-leb n n (omega arith))
 
 module _ (s : Setup) (srcs : Both Stream) where
   pub told-started : Told s srcs (started srcs)
@@ -69,7 +73,8 @@ module _ (s : Setup) (srcs : Both Stream) where
           ∙ ap (λ q. record-of s (v .calls) ++ ((c, called s q c .answer) ∷ [])) (v .query)
           ∙ ap (λ b. record-of s (v .calls) ++ ((c, b) ∷ [])) answers
 
-      more : {Y : Type 0} (f : Exchange → List Y) → gathered f (record-of s (v .calls ++ (c ∷ []))) ≡ gathered f (record-of s (v .calls)) ++ f (c, a)
+      more : {Y : Type 0} (f : Exchange → List Y) →
+          gathered f (record-of s (v .calls ++ (c ∷ []))) ≡ gathered f (record-of s (v .calls)) ++ f (c, a)
       more f = ap (gathered f) record-grows ∙ gathered-more f (record-of s (v .calls)) (c, a)
 
     pub told-closed : may-close s (x .query) ≡ true → Told s srcs (closed-in s x)
@@ -112,5 +117,6 @@ module _ (s : Setup) (srcs : Both Stream) where
     pub told-ended : (side : Side) → pick side (x .rest) ≡ [] → pick side srcs .ending ≡ End → Told s srcs (over-on side x)
     told-ended side none ends = record {
       calls = v .calls; query = v .query; lines = v .lines; windows = v .windows; fronts = v .fronts;
-      done = each-put (λ z over. over ≡ true → (pick z (x .rest) ≡ []) × (pick z srcs .ending ≡ End)) side true (x .over) (λ _. (none, ends)) (v .done)
+      done = each-put (λ z over. over ≡ true → (pick z (x .rest) ≡ []) × (pick z srcs .ending ≡ End)) side true (x .over)
+          (λ _. (none, ends)) (v .done)
     }

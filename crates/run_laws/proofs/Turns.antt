@@ -22,8 +22,8 @@ use Rattle.receipts.proofs.Calls.{half-after, event-cases}
 use Rattle.receipts.proofs.Sides.{mapped-put}
 use Rattle.rewriting.specs.Streams.{Stream}
 use Rattle.run_laws.specs.Runs.{Places, RunState, Turn, goes-on, stops, closed-in, closings, after-event, run-fault, with-side, outcome, heard, ended, take-from, next-side, turn}
-use Rattle.run_laws.proofs.Sides.{turns-left, turn-taken, turn-ended, chosen-open}
 use Rattle.run_laws.proofs.Told.{Told, told-closed, told-taken, told-ended}
+use Rattle.run_laws.proofs.TurnsLeft.{turns-left, entry-takes-one, ending-takes-one, next-unended}
 
 -- an event that leaves its side's CTI allows no closing that was not allowed before
 closing-same : (s : Setup) (q : QueryState) (x : Side) (e : PlainEvent) → ((h : Half) → half-after e h .cti ≡ h .cti) →
@@ -40,7 +40,8 @@ module _ (s : Setup) (p : Places) (srcs : Both Stream) where
   Sound n (goes-on y) = Told s srcs y × (turns-left (y .rest) (y .over) ≡ n) × (may-close s (y .query) ≡ false)
   Sound n (stops y f) = Told s srcs y
 
-  closings-sound : (blame : Refusal → Fault) (places n : ℕ) (x : RunState) → Told s srcs x → turns-left (x .rest) (x .over) ≡ n → Sound n (closings s p blame places x)
+  closings-sound : (blame : Refusal → Fault) (places n : ℕ) (x : RunState) → Told s srcs x → turns-left (x .rest) (x .over) ≡ n →
+      Sound n (closings s p blame places x)
   closings-sound blame zero n x v t =
       cond-both (may-close s (x .query)) (stops x (blame WindowsFull)) (goes-on x) (Sound n) (λ _. v) (λ may-not. (v, t, may-not))
   closings-sound blame (suc places) n x v t =
@@ -48,7 +49,9 @@ module _ (s : Setup) (p : Places) (srcs : Both Stream) where
       let again : Turn = closings s p blame places (closed-in s x) in
       let full : Turn = stops x (blame LinesFull) in
       cond-both (may-close s (x .query)) (cond fits again full) (goes-on x) (Sound n)
-        (λ may. cond-both fits again full (Sound n) (λ _. closings-sound blame places n (closed-in s x) (told-closed s srcs x v may) t) (λ _. v))
+        (λ may. cond-both fits again full (Sound n)
+          (λ _. closings-sound blame places n (closed-in s x) (told-closed s srcs x v may) t)
+          (λ _. v))
         (λ may-not. (v, t, may-not))
 
   -- after an event other than a CTI no closing is allowed
@@ -57,14 +60,15 @@ module _ (s : Setup) (p : Places) (srcs : Both Stream) where
   Quiet (retraction r e) y = may-close s (y .query) ≡ false
   Quiet (cti t) y = Unit {0}
 
-  after-sound : (blame : Refusal → Fault) (e : PlainEvent) (n : ℕ) (y : RunState) → Told s srcs y → turns-left (y .rest) (y .over) ≡ n → Quiet e y → Sound n (after-event s p blame e y)
+  after-sound : (blame : Refusal → Fault) (e : PlainEvent) (n : ℕ) (y : RunState) → Told s srcs y → turns-left (y .rest) (y .over) ≡ n → Quiet e y →
+      Sound n (after-event s p blame e y)
   after-sound blame (insert r) n y v t quiet = (v, t, quiet)
   after-sound blame (retraction r e) n y v t quiet = (v, t, quiet)
   after-sound blame (cti c) n y v t quiet = closings-sound blame (p .windows - length (y .windows)) n y v t
 
   -- a turn on a side that has not ended
-  module _ (n : ℕ) (x : RunState) (v : Told s srcs x) (t : turns-left (x .rest) (x .over) ≡ suc n) (quiet : may-close s (x .query) ≡ false)
-    (side : Side) (still : pick side (x .over) ≡ false) where
+  module _ (n : ℕ) (x : RunState) (v : Told s srcs x) (t : turns-left (x .rest) (x .over) ≡ suc n)
+    (quiet : may-close s (x .query) ≡ false) (side : Side) (still : pick side (x .over) ≡ false) where
     abbrev half : Half
     half = pick side (x .query .halves)
 
@@ -73,15 +77,16 @@ module _ (s : Setup) (p : Places) (srcs : Both Stream) where
     taken-quiet (retraction r e) es = closing-same s (x .query) side (retraction r e) (λ h. refl) ∙ quiet
     taken-quiet (cti c) es = tt
 
-    heard-sound : (e : Entry) (es : List Entry) → pick side (x .rest) ≡ e ∷ es → (a : Result (Unit {0}) Refusal) → outcome s x side (e .1) .answer ≡ a →
+    heard-sound : (e : Entry) (es : List Entry) → pick side (x .rest) ≡ e ∷ es →
+        (a : Result (Unit {0}) Refusal) → outcome s x side (e .1) .answer ≡ a →
         Sound n (heard s p side (pick side srcs .depth) e half x (with-side side (outcome s x side (e .1) .after) es x) a)
     heard-sound e es next (Ok u) ok =
         after-sound (run-fault side (pick side srcs .depth) (e .0)) (e .1) n (with-side side (outcome s x side (e .1) .after) es x)
-          (told-taken s srcs x v side still e es next ok) (turn-taken (x .rest) (x .over) side e es n next t) (taken-quiet (e .1) es)
+          (told-taken s srcs x v side still e es next ok) (entry-takes-one (x .rest) (x .over) side e es n next t) (taken-quiet (e .1) es)
     heard-sound e es next (Err why) refused = v
 
     ended-sound : (w : Ending) → pick side srcs .ending ≡ w → pick side (x .rest) ≡ [] → Sound n (ended side w x)
-    ended-sound End ends none = (told-ended s srcs x v side none ends, turn-ended (x .rest) (x .over) side n none still t, quiet)
+    ended-sound End ends none = (told-ended s srcs x v side none ends, ending-takes-one (x .rest) (x .over) side n none still t, quiet)
     ended-sound (Failed f) ends none = v
 
     take-sound : (rest : List Entry) → pick side (x .rest) ≡ rest → Sound n (take-from s p srcs x side rest)
@@ -90,5 +95,5 @@ module _ (s : Setup) (p : Places) (srcs : Both Stream) where
 
   pub turn-sound : (n : ℕ) (x : RunState) → Told s srcs x → turns-left (x .rest) (x .over) ≡ suc n → may-close s (x .query) ≡ false →
       (x .over .left && x .over .right) ≡ false → Sound n (turn s p srcs x)
-  turn-sound n x v t quiet unended =
-      take-sound n x v t quiet (next-side x) (chosen-open (x .over .left) (x .over .right) _ unended) (pick (next-side x) (x .rest)) refl
+  turn-sound n x v t quiet more =
+      take-sound n x v t quiet (next-side x) (next-unended (x .over .left) (x .over .right) _ more) (pick (next-side x) (x .rest)) refl

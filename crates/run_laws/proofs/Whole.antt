@@ -40,13 +40,16 @@ module _ (fs : Both (List Rule)) (srcs : Both Stream) where
   pick-piled Left = refl
   pick-piled Right = refl
 
-  each-rewritten : (P : Side → List Plain → Type 0) → ((x : Side) → P x (rewritten-history (pick x fs) (pick x srcs))) → (x : Side) → P x (pick x (rewritten-histories fs srcs))
+  each-rewritten : (P : Side → List Plain → Type 0) → ((x : Side) → P x (rewritten-history (pick x fs) (pick x srcs))) →
+      (x : Side) → P x (pick x (rewritten-histories fs srcs))
   each-rewritten P h Left = h Left
   each-rewritten P h Right = h Right
 
   -- no id comes twice in a rewritten history
   pub rewritten-distinct : Lawful fs srcs → (x : Side) → Distinct (pick x (rewritten-histories fs srcs))
-  rewritten-distinct lawful = each-rewritten (λ x rows. Distinct rows) (λ x. through-distinct (pick x fs) (history-of (pick x srcs)) (history-distinct (events-of x srcs) (lawful x .0)))
+  rewritten-distinct lawful =
+      each-rewritten (λ x rows. Distinct rows)
+        (λ x. through-distinct (pick x fs) (history-of (pick x srcs)) (history-distinct (events-of x srcs) (lawful x .0)))
 
   module _ (s : Setup) (a : Report) (lawful : Lawful fs srcs) (m : Made s (piled fs srcs) a) (ends : a .ending ≡ End) where
     pile-lawful : (x : Side) → LegalWith (rewritten-history (pick x fs) (pick x srcs)) (pile (pick x fs) (pick x srcs))
@@ -58,12 +61,15 @@ module _ (fs : Both (List Rule)) (srcs : Both Stream) where
     pile-history x = sym (ap history (all-events s (piled fs srcs) a m ends x) ∙ ap history-of (pick-piled x))
 
     -- what holds of the history of each side's accepted events
-    each-history : (P : Side → List Plain → Type 0) → ((x : Side) → P x (history-of (pile (pick x fs) (pick x srcs)))) → (x : Side) → P x (pick x (histories (record-of s (m .calls))))
+    each-history : (P : Side → List Plain → Type 0) → ((x : Side) → P x (history-of (pile (pick x fs) (pick x srcs)))) →
+        (x : Side) → P x (pick x (histories (record-of s (m .calls))))
     each-history P h Left = subst (P Left) (pile-history Left) (h Left)
     each-history P h Right = subst (P Right) (pile-history Right) (h Right)
 
     pub histories-same : (x : Side) → SameMembers (pick x (histories (record-of s (m .calls)))) (pick x (rewritten-histories fs srcs))
-    histories-same = each-history (λ x rows. SameMembers rows (pick x (rewritten-histories fs srcs))) (each-rewritten (λ x rows. SameMembers (history-of (pile (pick x fs) (pick x srcs))) rows) (λ x. pile-lawful x .1))
+    histories-same =
+        each-history (λ x rows. SameMembers rows (pick x (rewritten-histories fs srcs)))
+          (each-rewritten (λ x rows. SameMembers (history-of (pile (pick x fs) (pick x srcs))) rows) (λ x. pile-lawful x .1))
 
     pub histories-once : (x : Side) → Once (pick x (histories (record-of s (m .calls))))
     histories-once = each-history (λ x rows. Once rows) (λ x. pile-lawful x .2)

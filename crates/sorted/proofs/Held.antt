@@ -1,31 +1,24 @@
--- The first rows of an array, as plain numbers.
-use Prim.Native.Nat.{ℕ, suc, _+_, _-_, _<_, _≤_}
+-- The rows that a sorted store holds: the first of its array, as plain numbers.
+use Prim.Native.Nat.{ℕ, _<_, _≤_}
 use native.Mathlib.Omega.{arith}
-use mathlib.Core.Path.{_≡_, refl, sym, ap, subst, _∙_}
+use mathlib.Core.Path.{_≡_, refl, ap, subst, _∙_}
 use mathlib.Core.Bool.{Bool, true, false, cond, not}
-use mathlib.Core.List.{List, [], _∷_, _++_, map}
+use mathlib.Core.List.{List, [], _∷_, map}
 use lib.Dec.{ltb}
-use lib.ListN.{length, getD, set, take, drop}
-use lib.Seq.{take-set-lt}
-use Rattle.std.proofs.shelf.Lists.{getD-map, getD-take, length-map, length-take-le, map-append, map-set, take-map, drop-map}
-use Rattle.std.specs.Holes.{inserted, removed}
+use lib.ListN.{length, getD, take}
+use Rattle.std.proofs.shelf.Lists.{getD-map, getD-take, length-map, length-take-le}
 use Rattle.std.specs.shelf.Lists.{kept-by}
 use Rattle.std.specs.shelf.Sorted.{Rises}
 use Rattle.std.specs.declared.option.Option.the-variants.{Some, None}
 use Rattle.rows.specs.declared.row.PlainRow.{PlainRow}
-use Rattle.rows.specs.Rows.{plain, with-end}
-use Rattle.receipts.specs.Stores.{Rising, nth-row, holds-id, placed, end-set, without, kept}
-use Rattle.stores.specs.Places.{below, place, has-id}
+use Rattle.rows.specs.Rows.{plain}
+use Rattle.receipts.specs.Stores.{Rising, nth-row, kept}
+use Rattle.stores.specs.Places.{below, place}
 use Rattle.stores.proofs.Places.{nth-past, nth-getD}
-use Rattle.stores.proofs.Edits.{placed-place, without-place, end-set-place}
 use Rattle.stores.proofs.Plains.{rises-plain, place-plain}
-use Rattle.sorted.specs.Model.{stays}
-
-map-inserted : {X Y : Type 0} (f : X → Y) (xs : List X) (k : ℕ) (v : X) → map f (inserted xs k v) ≡ inserted (map f xs) k (f v)
-map-inserted f xs k v = map-append f (take k xs) (v ∷ drop k xs) ∙ sym (ap (λ zs. zs ++ (f v ∷ map f (drop k xs))) (take-map f k xs)) ∙ sym (ap (λ zs. take k (map f xs) ++ (f v ∷ zs)) (drop-map f k xs))
-
-map-removed : {X Y : Type 0} (f : X → Y) (xs : List X) (k : ℕ) → map f (removed xs k) ≡ removed (map f xs) k
-map-removed f xs k = map-append f (take k xs) (drop (suc k) xs) ∙ sym (ap (λ zs. zs ++ map f (drop (suc k) xs)) (take-map f k xs)) ∙ sym (ap (λ zs. take k (map f xs) ++ zs) (drop-map f (suc k) xs))
+use Rattle.sorted.specs.declared.table.SortedStore.{SortedStore}
+use Rattle.sorted.specs.Model.{held, stays}
+use Rattle.sorted.proofs.Rising.{rising-from-test}
 
 module _ (n : ℕ) (rows : List PlainRow) where
   pub length-held : n ≤ length rows → length (map plain (take n rows)) ≡ n
@@ -53,3 +46,9 @@ kept-plain g (r ∷ rows) = by-test (ltb (r .span .end) g) (kept-plain g rows)
       → map plain (cond (not b) (r ∷ kept-by (stays g) rows) (kept-by (stays g) rows)) ≡ cond b (kept g (map plain rows)) (plain r ∷ kept g (map plain rows))
     by-test true more = more
     by-test false more = ap (λ z. plain r ∷ z) more
+
+pub rising-held : (s : SortedStore) → Rising (held s)
+rising-held s = rising-from-test (held s) (s .ordered)
+
+pub count-held : (s : SortedStore) → length (held s) ≡ s .count
+count-held s = length-held (s .count) (s .rows) (omega (arith, s .long, s .within))

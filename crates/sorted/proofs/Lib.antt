@@ -1,3 +1,3 @@
 pub mod Rising
 pub mod Held
-pub mod Calls
+pub mod Changes

@@ -1,5 +1,6 @@
 -- The place of an id among things in rising id order.
 --     below number id xs          how many xs stand in front of the first whose number is not below id
+--     id-of r                     the id of the row r
 --     place id rows               the place of an id in rows, whether or not a row has it
 --     has-id id o                 the row o is there and has the id
 use Prim.Native.Nat.{ℕ, suc}

@@ -1,11 +1,11 @@
 use native.Mathlib.Omega.{arith}
 use mathlib.Core.Path.{_∙_}
 use mathlib.Core.Bool.{true, false}
-use Rattle.rows.specs.Rows.{plain}
 use Rattle.stores.specs.Told.{row-of}
 use Rattle.stores.proofs.Outcomes.{adds-held, adds-full}
 use Rattle.sorted.specs.Model.{held}
-use Rattle.sorted.proofs.Calls.{count-held, holds-told, within-held, adds-ordered, adds-told}
+use Rattle.sorted.proofs.Held.{count-held}
+use Rattle.sorted.proofs.Changes.{holds-told, within-held, adds-ordered, adds-told}
 use Rattle.sorted.proofs.table.calls.SortedRows.add.Needs as need
 
 pub returns-then-has : need.returns-then-has

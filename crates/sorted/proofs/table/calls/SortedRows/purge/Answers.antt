@@ -1,6 +1,6 @@
 use native.Mathlib.Omega.{arith}
 use mathlib.Core.Path.{_∙_}
-use Rattle.sorted.proofs.Calls.{purge-held, purge-ordered, purge-count}
+use Rattle.sorted.proofs.Changes.{purge-held, purge-ordered, purge-count}
 use Rattle.sorted.proofs.table.calls.SortedRows.purge.Needs as need
 
 pub ghost-self : need.ghost-self

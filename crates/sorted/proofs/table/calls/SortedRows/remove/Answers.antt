@@ -3,7 +3,7 @@ use mathlib.Core.Path.{_∙_}
 use mathlib.Core.Bool.{false}
 use Rattle.stores.proofs.Outcomes.{removes-none}
 use Rattle.sorted.specs.Model.{held}
-use Rattle.sorted.proofs.Calls.{holds-told, removes-ordered, removes-told}
+use Rattle.sorted.proofs.Changes.{holds-told, removes-ordered, removes-told}
 use Rattle.sorted.proofs.table.calls.SortedRows.remove.Needs as need
 
 pub returns-then-not-has : need.returns-then-not-has

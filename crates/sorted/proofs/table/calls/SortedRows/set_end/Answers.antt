@@ -5,15 +5,14 @@ use Rattle.std.proofs.shelf.Results.{err-from-errBy}
 use Rattle.std.specs.declared.result.Result.the-variants.{Err}
 use Rattle.stores.specs.Told.{outcome}
 use Rattle.stores.proofs.Outcomes.{sets-none}
-use Rattle.stores.proofs.Places.{found-none}
 use Rattle.sorted.specs.Model.{held}
-use Rattle.sorted.proofs.Calls.{rising-held, sets-refused, sets-ordered, sets-told}
+use Rattle.sorted.proofs.Changes.{missing-told, sets-refused, sets-ordered, sets-told}
 use Rattle.sorted.proofs.table.calls.SortedRows.set_end.Needs as need
 
 pub returns-then-not-has : need.returns-then-not-has
 returns-then-not-has c =
     let s = c .args .self .now in
-    sets-none (c .args .id) (held s) (c .args .end) (found-none (c .args .id) _ (held s) (rising-held s) (c .place-place .ensures) (c .if-not-has .ensures tt .value))
+    sets-none (c .args .id) (held s) (c .args .end) (missing-told s (c .args .id) _ (c .place-place .ensures) (c .if-not-has .ensures tt .value))
 
 pub returns-in-Break-span : need.returns-in-Break-span
 returns-in-Break-span c =

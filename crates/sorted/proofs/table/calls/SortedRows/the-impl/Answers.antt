@@ -1,7 +1,7 @@
 use native.Mathlib.Omega.{arith}
 use lib.ListN.{take}
 use Rattle.stores.proofs.Plains.{numbered-plain, standing-plain}
-use Rattle.sorted.proofs.Calls.{count-held, rising-held}
+use Rattle.sorted.proofs.Held.{count-held, rising-held}
 use Rattle.sorted.proofs.table.calls.SortedRows.the-impl.Needs as need
 
 pub within-law : need.within-law
