@@ -1,9 +1,9 @@
-mod Held
-mod FilterMap
-mod Events
-mod Images
-mod Agree
-mod Steps
+pub mod Held
+pub mod FilterMap
+pub mod Events
+pub mod Images
+pub mod Agree
+pub mod Steps
 pub mod Layers
 pub mod Piles
 pub mod RowRules
