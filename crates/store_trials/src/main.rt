@@ -1,4 +1,6 @@
 // Drives each store and a naive list of rows through the same long sequence of calls, and prints how many answers agreed.
+use hashed::store::HashedStore;
+use hashed::store::calls::HashedRows;
 use sorted::table::SortedStore;
 use sorted::table::calls::SortedRows;
 use std::error::AnyError;
@@ -25,5 +27,6 @@ fn report<S: Store + Drop>(rt: &LibcRuntime, name: &str, seed: u32) -> Result<()
 }
 
 fn main(rt: LibcRuntime) -> Result<(), AnyError> {
-    report::<SortedStore>(&rt, "sorted", 2_463_534_242)
+    report::<SortedStore>(&rt, "sorted", 2_463_534_242)?;
+    report::<HashedStore>(&rt, "hashed", 2_463_534_242)
 }

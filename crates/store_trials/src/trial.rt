@@ -11,8 +11,12 @@ use std::alloc::AllocError;
 use std::alloc::Global;
 use stores::store::Store;
 
-// Ids that are wanted besides small ones: the greatest, and some far apart.
+// Ids that are wanted besides small ones: some far apart, and some that share the place where a search by hash begins.
 const FAR: [u32; 8] = [4_294_967_295, 4_294_967_294, 2_147_483_648, 65_536, 1_000_000, 3_000_000_000, 123_456_789, 77_777];
+const SHARED: [u32; 24] = [
+    627, 1004, 1614, 2224, 2601, 3211, 3588, 4198, 4808, 5185, 5795, 6405,
+    6782, 7392, 7769, 8379, 8989, 9366, 9976, 10353, 10586, 10963, 11573, 11950,
+];
 
 #[derive(Drop)]
 pub struct Trial<S> {
@@ -60,7 +64,8 @@ impl<S: Store + Drop> Trial<S> {
 
     fn draw_id(&mut self) -> u32 {
         match self.draws.below(8) {
-            0 => FAR[(self.draws.below(8) % 8) as usize],
+            0 => FAR[(self.draws.next() % 8) as usize],
+            1 => SHARED[(self.draws.next() % 24) as usize],
             _ => self.draws.below(400),
         }
     }

@@ -1,0 +1,2 @@
+// A store that finds its rows by a hash of their id.
+pub mod store;

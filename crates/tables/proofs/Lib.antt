@@ -1,0 +1,7 @@
+pub mod Found
+pub mod Search
+pub mod Steps
+pub mod Free
+pub mod Writes
+pub mod Puts
+pub mod Laws

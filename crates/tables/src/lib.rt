@@ -1,0 +1,3 @@
+// A table of rows that are found by a hash of their id.
+pub mod slot;
+pub mod table;
