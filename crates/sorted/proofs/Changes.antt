@@ -84,8 +84,8 @@ module _ (s : SortedStore) (id k : ℕ) (at : k ≡ place id (held s)) where
         moved =
             let good = span-good start e (times new) made in
             let here : getD (held s) k (plain d) ≡ plain (getD (s .rows) k d) =
-                getD-map plain (take (s .count) (s .rows)) k d (plain d) (omega (arith, length-take-le (s .count) (s .rows) (omega (arith, s .long, s .within))))
-                ∙ ap plain (getD-take (s .count) (s .rows) k d lt) in
+            getD-map plain (take (s .count) (s .rows)) k d (plain d) (omega (arith, length-take-le (s .count) (s .rows) (omega (arith, s .long, s .within))))
+            ∙ ap plain (getD-take (s .count) (s .rows) k d lt) in
             let same : plain r ≡ with-end e (plain (getD (s .rows) k d)) = cc in
             same ∙ sym (ap (with-end e) here)
 

@@ -34,7 +34,7 @@ module _ (n : ℕ) (rows : List PlainRow) where
 
   -- what a search in the first n rows tells
   pub place-held : (id k : ℕ) (xs : List PlainRow) → xs ≡ take n rows → Rising (map plain (take n rows))
-    → (Rises (λ (r : PlainRow). r .id) xs → k ≡ below (λ (r : PlainRow). r .id) id xs) → k ≡ place id (map plain (take n rows))
+      → (Rises (λ (r : PlainRow). r .id) xs → k ≡ below (λ (r : PlainRow). r .id) id xs) → k ≡ place id (map plain (take n rows))
   place-held id k xs e up told =
       subst (λ zs. Rises (λ (r : PlainRow). r .id) zs → k ≡ below (λ (r : PlainRow). r .id) id zs) e told (rises-plain (take n rows) up) ∙ place-plain id (take n rows)
 
@@ -43,7 +43,7 @@ kept-plain g [] = refl
 kept-plain g (r ∷ rows) = by-test (ltb (r .span .end) g) (kept-plain g rows)
   where
     by-test : (b : Bool) → map plain (kept-by (stays g) rows) ≡ kept g (map plain rows)
-      → map plain (cond (not b) (r ∷ kept-by (stays g) rows) (kept-by (stays g) rows)) ≡ cond b (kept g (map plain rows)) (plain r ∷ kept g (map plain rows))
+        → map plain (cond (not b) (r ∷ kept-by (stays g) rows) (kept-by (stays g) rows)) ≡ cond b (kept g (map plain rows)) (plain r ∷ kept g (map plain rows))
     by-test true more = more
     by-test false more = ap (λ z. plain r ∷ z) more
 

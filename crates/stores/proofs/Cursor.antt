@@ -1,19 +1,20 @@
 -- Walking a store in id order: what is left from an id on.
 --     rest id rows                the rows from the first whose id is not below id
-use Prim.Native.Nat.{ℕ, zero, suc, _+_, _-_, _<_, _≤_}
+use Prim.Native.Nat.{ℕ, zero, suc, _+_, _<_, _≤_}
 use native.Mathlib.Omega.{arith}
 use mathlib.Core.Path.{_≡_, refl, sym, ap, _∙_}
 use mathlib.Core.Bool.{Bool, true, false, cond}
 use mathlib.Core.List.{List, [], _∷_}
 use lib.Dec.{leb}
-use lib.ListN.{drop}
-use Rattle.std.proofs.shelf.Lists.{drop-drop}
+use lib.ListN.{length, drop}
+use Rattle.std.proofs.shelf.Lists.{drop-drop, length-drop}
 use Rattle.std.proofs.shelf.Tests.{le-leb, lt-leb, leb-true, leb-false, cond-true, cond-false}
 use Rattle.std.specs.declared.option.Option.{Option}
 use Rattle.std.specs.declared.option.Option.the-variants.{Some, None}
 use Rattle.rows.specs.Rows.{Plain}
 use Rattle.receipts.specs.Stores.{Above, Rising, first-from, nth-row}
 use Rattle.stores.specs.Told.{Numbered}
+use Rattle.stores.proofs.Places.{nth-past}
 
 abbrev pub rest : ℕ → List Plain → List Plain
 rest id [] = []
@@ -52,8 +53,8 @@ first-low id [] y e = let z : _≡_ {A = ℕ} 0 1 = cc in omega arith
 first-low id (x ∷ xs) y e = low-at id x y (first-from id xs) (leb id (x .id)) refl (first-low id xs y) e
 
 rest-more-at : (id : ℕ) (x : Plain) (xs : List Plain) → Rising (x ∷ xs) → (y : Plain) (b : Bool) → leb id (x .id) ≡ b
-  → (first-from id xs ≡ Some y → rest id xs ≡ y ∷ rest (y .id + 1) xs)
-  → cond b (Some x) (first-from id xs) ≡ Some y → cond b (x ∷ xs) (rest id xs) ≡ y ∷ rest (y .id + 1) (x ∷ xs)
+    → (first-from id xs ≡ Some y → rest id xs ≡ y ∷ rest (y .id + 1) xs)
+    → cond b (Some x) (first-from id xs) ≡ Some y → cond b (x ∷ xs) (rest id xs) ≡ y ∷ rest (y .id + 1) (x ∷ xs)
 rest-more-at id x xs r y true t below e =
     let q : x ≡ y = cc in
     let past : rest (x .id + 1) (x ∷ xs) ≡ xs = cond-false _ _ _ (lt-leb (x .id + 1) (x .id) (omega arith)) ∙ rest-above (x .id) xs (r .0) in
@@ -81,10 +82,9 @@ nth-drop zero k xs = ap (λ n. nth-row n xs) (omega arith)
 nth-drop (suc i) k [] = refl
 nth-drop (suc i) k (x ∷ xs) = nth-drop i k xs ∙ sym (ap (λ n. nth-row n (x ∷ xs)) {x = suc i + k} {y = suc (i + k)} (omega arith))
 
--- where nothing is left at a place, nothing stands at a place behind it
-nth-past : (i place : ℕ) (xs : List Plain) → i ≤ place → drop i xs ≡ [] → nth-row place xs ≡ None
-nth-past i place xs l e =
-    ap (λ n. nth-row n xs) {x = place} {y = i + (place - i)} (omega arith) ∙ sym (nth-drop i (place - i) xs) ∙ ap (nth-row (place - i)) e
+-- where nothing is left at a place, nothing stands there or behind
+nth-none : (i k : ℕ) (xs : List Plain) → i ≤ k → drop i xs ≡ [] → nth-row k xs ≡ None
+nth-none i k xs l e = nth-past k xs (omega (arith, length-drop i xs, ap length e))
 
 -- the walk has passed i rows, and from is where it goes on
 module _ (from i : ℕ) (xs : List Plain) (walked : rest from xs ≡ drop i xs) where
@@ -95,8 +95,8 @@ module _ (from i : ℕ) (xs : List Plain) (walked : rest from xs ≡ drop i xs) 
   walked-here place e = first-rest from xs ∙ ap (nth-row 0) walked ∙ nth-drop i 0 xs ∙ ap (λ n. nth-row n xs) (omega arith)
 
   pub walked-out : (place : ℕ) → i ≤ place → None ≡ first-from from xs → None ≡ nth-row place xs
-  walked-out place l e = sym (nth-past i place xs l (sym walked ∙ rest-none from xs (sym e)))
+  walked-out place l e = sym (nth-none i place xs l (sym walked ∙ rest-none from xs (sym e)))
 
   pub walked-last : (place : ℕ) → i < place → Rising xs → Numbered xs → (y : Plain) → Some y ≡ first-from from xs → y .id ≡ 4294967295 → None ≡ nth-row place xs
   walked-last place l r n y e top =
-      sym (nth-past (i + 1) place xs (omega arith) (sym (walked-more r y e) ∙ ap (λ id. rest (id + 1) xs) top ∙ rest-past xs n))
+      sym (nth-none (i + 1) place xs (omega arith) (sym (walked-more r y e) ∙ ap (λ id. rest (id + 1) xs) top ∙ rest-past xs n))

@@ -21,7 +21,7 @@ placed-place r (x ∷ m) h =
     let other = eqb-false (x .id) (r .id) (absent .0) in
     ⊎-elim
     (λ lt. cond-false _ _ _ (le-ltb (r .id) (x .id) (omega arith)) ∙ ap (λ z. x ∷ z) (placed-place r m (absent .1))
-      ∙ sym (ap (λ n. inserted (x ∷ m) n r) (place-more (r .id) x m lt)))
+    ∙ sym (ap (λ n. inserted (x ∷ m) n r) (place-more (r .id) x m lt)))
     (λ le. cond-true _ _ _ (lt-ltb (r .id) (x .id) (omega arith)) ∙ sym (ap (λ n. inserted (x ∷ m) n r) (place-here (r .id) x m le)))
     (cases-lt (x .id) (r .id))
 
@@ -32,19 +32,19 @@ module _ (id : ℕ) where
   without-place (x ∷ m) h =
       ⊎-elim
       (λ lt. cond-false _ _ _ (ne-eqb (x .id) id (λ e. omega arith))
-        ∙ ap (λ z. x ∷ z) (without-place m (sym (ap (λ n. has-id id (nth-row n (x ∷ m))) (place-more id x m lt)) ∙ h))
-        ∙ sym (ap (removed (x ∷ m)) (place-more id x m lt)))
+      ∙ ap (λ z. x ∷ z) (without-place m (sym (ap (λ n. has-id id (nth-row n (x ∷ m))) (place-more id x m lt)) ∙ h))
+      ∙ sym (ap (removed (x ∷ m)) (place-more id x m lt)))
       (λ le. cond-true _ _ _ (sym (ap (λ n. has-id id (nth-row n (x ∷ m))) (place-here id x m le)) ∙ h) ∙ sym (ap (removed (x ∷ m)) (place-here id x m le)))
       (cases-lt (x .id) id)
 
   pub end-set-place : (e : ℕ) (d : Plain) (m : List Plain) → has-id id (nth-row (place id m) m) ≡ true
-    → end-set id e m ≡ set m (place id m) (with-end e (getD m (place id m) d))
+      → end-set id e m ≡ set m (place id m) (with-end e (getD m (place id m) d))
   end-set-place e d [] h = refl
   end-set-place e d (x ∷ m) h =
       let at : ℕ → List Plain = λ n. set (x ∷ m) n (with-end e (getD (x ∷ m) n d)) in
       ⊎-elim
       (λ lt. cond-false _ _ _ (ne-eqb (x .id) id (λ e. omega arith))
-        ∙ ap (λ z. x ∷ z) (end-set-place e d m (sym (ap (λ n. has-id id (nth-row n (x ∷ m))) (place-more id x m lt)) ∙ h))
-        ∙ sym (ap at (place-more id x m lt)))
+      ∙ ap (λ z. x ∷ z) (end-set-place e d m (sym (ap (λ n. has-id id (nth-row n (x ∷ m))) (place-more id x m lt)) ∙ h))
+      ∙ sym (ap at (place-more id x m lt)))
       (λ le. cond-true _ _ _ (sym (ap (λ n. has-id id (nth-row n (x ∷ m))) (place-here id x m le)) ∙ h) ∙ sym (ap at (place-here id x m le)))
       (cases-lt (x .id) id)

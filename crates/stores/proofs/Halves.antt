@@ -27,15 +27,19 @@ module _ {X : Type 0} (number : X → ℕ) (id low high middle : ℕ) (xs : List
 
   pub halving-up : number x < id → Halving number id (middle + 1) high xs
   halving-up lt =
-      record { order = omega arith; within = h .within; back = h .back
-             ; front = λ u k d l. omega (arith, here d, u k middle d (omega arith) (omega (arith, h .within))) }
+      record {
+        order = omega arith;
+        within = h .within;
+        back = h .back;
+        front = λ u k d l. omega (arith, here d, u k middle d (omega arith) (omega (arith, h .within)));
+      }
 
   pub halving-down : id ≤ number x → Halving number id low middle xs
   halving-down le =
       record { order = up; within = omega (arith, h .within); front = h .front; back = λ u k d l m. omega (arith, here d, u middle k d l m) }
 
 below-split : {X : Type 0} (number : X → ℕ) (id k : ℕ) (xs : List X) → k ≤ length xs
-  → ((j : ℕ) (d : X) → j < k → number (getD xs j d) < id) → ((j : ℕ) (d : X) → k ≤ j → j < length xs → id ≤ number (getD xs j d)) → k ≡ below number id xs
+    → ((j : ℕ) (d : X) → j < k → number (getD xs j d) < id) → ((j : ℕ) (d : X) → k ≤ j → j < length xs → id ≤ number (getD xs j d)) → k ≡ below number id xs
 below-split number id k [] h front back = omega arith
 below-split number id zero (x ∷ xs) h front back = sym (cond-false _ _ _ (le-ltb _ _ (back 0 x (omega arith) (omega arith))))
 below-split number id (suc k) (x ∷ xs) h front back =

@@ -21,7 +21,7 @@ length-without id [] h = absurd (false≢true h)
 length-without id (x ∷ m) h = by-test (eqb (x .id) id) h (length-without id m)
   where
     by-test : (b : Bool) → (b || holds-id id m) ≡ true → (holds-id id m ≡ true → suc (length (without id m)) ≡ length m)
-      → suc (length (cond b m (x ∷ without id m))) ≡ suc (length m)
+        → suc (length (cond b m (x ∷ without id m))) ≡ suc (length m)
     by-test true h more = refl
     by-test false h more = ap suc (more h)
 

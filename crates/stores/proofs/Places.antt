@@ -82,6 +82,7 @@ holds-place id m h = holds-found id m ∙ ap isSome (found-place id m h _ refl) 
     by-test : (x : Plain) (b : Bool) → isSome (cond b (Some x) None) ≡ b
     by-test x true = refl
     by-test x false = refl
+
     some-of : (o : Option Plain) → isSome (cond (has-id id o) o None) ≡ has-id id o
     some-of None = refl
     some-of (Some x) = by-test x (eqb (x .id) id)

@@ -22,8 +22,8 @@ pub span-lawful : (s : Span) → lawful (s .start) (s .end) ≡ true
 span-lawful s =
     and-from _ _ (le-leb (s .start) last (s .begun))
     (and-from _ _
-      (⊎-elim (λ lt. or-right (finite (s .end)) _ (eq-eqb (s .end) forever (s .ended lt))) (λ le. or-left _ (eqb (s .end) forever) (le-leb (s .end) last le)) (cases-lt last (s .end)))
-      (lt-ltb (s .start) (s .end) (s .forward)))
+    (⊎-elim (λ lt. or-right (finite (s .end)) _ (eq-eqb (s .end) forever (s .ended lt))) (λ le. or-left _ (eqb (s .end) forever) (le-leb (s .end) last le)) (cases-lt last (s .end)))
+    (lt-ltb (s .start) (s .end) (s .forward)))
 
 pub numbered-plain : (rows : List PlainRow) → Numbered (map plain rows)
 numbered-plain [] = tt

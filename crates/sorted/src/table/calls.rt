@@ -8,14 +8,14 @@ ghost use Rattle.std.specs.shelf.Lists.{kept-by};
 ghost use Rattle.receipts.specs.Stores.{nth-row};
 ghost use Rattle.stores.specs.Places.{place, has-id};
 ghost use Rattle.sorted.specs.Model.{held, stays};
+use crate::table::SortedStore;
 use refusals::refusal::Refusal;
 use rows::row::PlainRow;
 use rows::span::Span;
-use stores::search::place_of;
 use stores::search::RowId;
+use stores::search::place_of;
 use stores::store::Purged;
 use stores::store::Store;
-use crate::table::SortedStore;
 
 impl SortedStore {
     // The place of an id, whether or not a row has it.
@@ -75,9 +75,18 @@ pub impl Store for SortedStore as SortedRows {
 
     ghost rows = { held };
 
+    // Each place of the array wants some row, and from 0 to 1 is a lawful span.
     fn new() -> SortedStore {
         match Span::new(0, 1) {
-            Ok(span) => SortedStore { rows: [PlainRow { id: 0, span, key: 0, value: 0 }; 128], count: 0 },
+            Ok(span) => SortedStore {
+                rows: [PlainRow {
+                    id: 0,
+                    span,
+                    key: 0,
+                    value: 0,
+                }; 128],
+                count: 0,
+            },
             Err(_) => unreachable(),
         }
     }
@@ -92,7 +101,11 @@ pub impl Store for SortedStore as SortedRows {
 
     fn get(&self, id: u32) -> Option<PlainRow> {
         let place = self.place(id);
-        if self.has(id, place) { Some(self.rows[place]) } else { None }
+        if self.has(id, place) {
+            Some(self.rows[place])
+        } else {
+            None
+        }
     }
 
     fn first_from(&self, id: u32) -> Option<PlainRow> {
@@ -100,7 +113,11 @@ pub impl Store for SortedStore as SortedRows {
     }
 
     fn row_at(&self, place: usize) -> Option<PlainRow> {
-        if place < self.count { Some(self.rows[place]) } else { None }
+        if place < self.count {
+            Some(self.rows[place])
+        } else {
+            None
+        }
     }
 
     fn add(&mut self, id: u32, span: Span, key: u32, value: u32) -> Result<(), Refusal> {
@@ -111,7 +128,17 @@ pub impl Store for SortedStore as SortedRows {
         if self.count == Self::CAPACITY {
             return Err(Refusal::StoreFull);
         }
-        put(&mut self.rows, self.count, place, PlainRow { id, span, key, value });
+        put(
+            &mut self.rows,
+            self.count,
+            place,
+            PlainRow {
+                id,
+                span,
+                key,
+                value,
+            },
+        );
         self.count += 1;
         Ok(())
     }
@@ -123,7 +150,12 @@ pub impl Store for SortedStore as SortedRows {
         }
         let row = self.rows[place];
         let span = Span::new(row.span.start(), end)?;
-        self.rows[place] = PlainRow { id: row.id, span, key: row.key, value: row.value };
+        self.rows[place] = PlainRow {
+            id: row.id,
+            span,
+            key: row.key,
+            value: row.value,
+        };
         Ok(())
     }
 
@@ -141,6 +173,8 @@ pub impl Store for SortedStore as SortedRows {
         let before = self.count;
         let kept = keep_from(&mut self.rows, before, below);
         self.count = kept;
-        Purged { count: before - kept }
+        Purged {
+            count: before - kept,
+        }
     }
 }

@@ -12,5 +12,7 @@ loop-low-again g c =
 
 pub returns : need.returns
 returns g c =
-    record { within = omega (arith, c .loop-low .inv .order, c .loop-low .inv .within)
-           ; place = halving-all _ _ _ _ _ (c .loop-low .inv) (c .loop-low-test .left) }
+    record {
+      within = omega (arith, c .loop-low .inv .order, c .loop-low .inv .within);
+      place = halving-all _ _ _ _ _ (c .loop-low .inv) (c .loop-low-test .left);
+    }

@@ -11,10 +11,11 @@ use Rattle.sorted.proofs.table.calls.keep_from.Needs.{then-end-below, else-end
 pub loop-i-again : need.loop-i-again
 loop-i-again c =
     elim (c .if-end-below .came) [
-      then-end-below w ↦ rw (w .rows-is, w .front-is) (keeping-more-set (c .loop-i .inv) (omega arith)
-        (not-from-false _ (le-ltb _ _ (omega (arith, c .end .ensures, w .if-end-below .taken)))) (c .index-rows-i .is))
-    | else-end-below w ↦ rw (w .rows-is, w .front-is) (keeping-more-no (c .loop-i .inv) (omega arith)
-        (not-from-true _ (lt-ltb _ _ (omega (arith, c .end .ensures, w .if-end-below .left)))) (c .index-rows-i .is)) ]
+      | then-end-below w ↦ rw (w .rows-is, w .front-is) (keeping-more-set (c .loop-i .inv) (omega arith)
+          (not-from-false _ (le-ltb _ _ (omega (arith, c .end .ensures, w .if-end-below .taken)))) (c .index-rows-i .is))
+      | else-end-below w ↦ rw (w .rows-is, w .front-is) (keeping-more-no (c .loop-i .inv) (omega arith)
+          (not-from-true _ (lt-ltb _ _ (omega (arith, c .end .ensures, w .if-end-below .left)))) (c .index-rows-i .is))
+    ]
 
 pub returns : need.returns
 returns c =

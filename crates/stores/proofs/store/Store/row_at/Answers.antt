@@ -20,7 +20,7 @@ pub returns-then-row : need.returns-then-row
 returns-then-row g c =
     let s = c .args .self .now in
     walked-last (c .loop-passed .from) _ (g .Self·Store .rows s) (c .loop-passed .inv) _ (c .loop-passed-test .taken) (g .Self·Store·met .rising s) (g .Self·Store·met .numbered s)
-      (plain (c .in-Some .row)) (c .in-Some .ensures tt) (c .if-row .taken)
+    (plain (c .in-Some .row)) (c .in-Some .ensures tt) (c .if-row .taken)
 
 pub returns : need.returns
 returns g c =

@@ -5,13 +5,16 @@ use Rattle.sorted.proofs.table.calls.SortedRows.purge.Needs as need
 
 pub ghost-self : need.ghost-self
 ghost-self c =
-    let s = c .args .self .now in
-    ( c .keep-from-kept .kept .rows ∙ s .long
-    , (omega arith, (purge-ordered s (c .args .below) _ (c .keep-from-kept .last .rows) (c .keep-from-kept .ensures .front), tt)) )
+    let s = c .args .self .now in (
+      c .keep-from-kept .kept .rows ∙ s .long,
+      (omega arith, (purge-ordered s (c .args .below) _ (c .keep-from-kept .last .rows) (c .keep-from-kept .ensures .front), tt)),
+    )
 
 pub returns : need.returns
 returns c =
     let s = c .args .self .now in
     let front = c .keep-from-kept .ensures .front in
-    record { count = purge-count s (c .args .below) _ (c .keep-from-kept .last .rows) front (omega arith)
-           ; after = purge-held s (c .args .below) _ (c .keep-from-kept .last .rows) front }
+    record {
+      count = purge-count s (c .args .below) _ (c .keep-from-kept .last .rows) front (omega arith);
+      after = purge-held s (c .args .below) _ (c .keep-from-kept .last .rows) front;
+    }

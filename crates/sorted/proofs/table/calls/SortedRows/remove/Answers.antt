@@ -14,9 +14,10 @@ returns-then-not-has c =
 pub ghost-self : need.ghost-self
 ghost-self c =
     let s = c .args .self .now in
-    let told = c .if-not-has .ensures tt in
-    ( c .cut .kept .rows ∙ s .long
-    , (omega arith, (removes-ordered s (c .args .id) _ (c .place-place .ensures) (told .value) (told .within tt) (c .cut .last .rows) (c .cut .ensures), tt)) )
+    let told = c .if-not-has .ensures tt in (
+      c .cut .kept .rows ∙ s .long,
+      (omega arith, (removes-ordered s (c .args .id) _ (c .place-place .ensures) (told .value) (told .within tt) (c .cut .last .rows) (c .cut .ensures), tt)),
+    )
 
 pub returns : need.returns
 returns c =

@@ -25,9 +25,10 @@ returns-in-Break-span c =
 pub ghost-self-2 : need.ghost-self-2
 ghost-self-2 c =
     let s = c .args .self .now in
-    let told = c .if-not-has .ensures tt in
-    ( length-set (s .rows) _ _ ∙ s .long
-    , (omega arith, (sets-ordered s (c .args .id) _ (c .place-place .ensures) (told .value) (told .within tt) _ (c .args .end) _ (c .start .ensures) _ (c .in-Continue-span .span) (c .in-Continue-span .ensures tt) refl, tt)) )
+    let told = c .if-not-has .ensures tt in (
+      length-set (s .rows) _ _ ∙ s .long,
+      (omega arith, (sets-ordered s (c .args .id) _ (c .place-place .ensures) (told .value) (told .within tt) _ (c .args .end) _ (c .start .ensures) _ (c .in-Continue-span .span) (c .in-Continue-span .ensures tt) refl, tt)),
+    )
 
 pub returns : need.returns
 returns c =
