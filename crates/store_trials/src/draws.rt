@@ -2,16 +2,16 @@
 
 // A generator by shifts and exclusive ors.
 #[derive(Clone, Copy)]
-pub struct Draws {
+pub(crate) struct Draws {
     state: u32,
 }
 
 impl Draws {
-    pub fn new(seed: u32) -> Draws {
+    pub(crate) fn new(seed: u32) -> Draws {
         Draws { state: seed }
     }
 
-    pub fn next(&mut self) -> u32 {
+    pub(crate) fn next(&mut self) -> u32 {
         let mut x = self.state;
         x ^= x.wrapping_shl(13);
         x ^= x >> 17;
@@ -21,7 +21,7 @@ impl Draws {
     }
 
     // A number below `bound`, and 0 where there is none.
-    pub fn below(&mut self, bound: u32) -> u32 {
+    pub(crate) fn below(&mut self, bound: u32) -> u32 {
         let x = self.next();
         if bound == 0 { 0 } else { x % bound }
     }

@@ -6,21 +6,21 @@ use std::alloc::AllocError;
 use std::alloc::Global;
 
 #[derive(Drop)]
-pub struct Naive {
+pub(crate) struct Naive {
     rows: Vec<PlainRow>,
     capacity: usize,
 }
 
 impl Naive {
-    pub fn new(heap: Global, capacity: usize) -> Naive {
+    pub(crate) fn new(heap: Global, capacity: usize) -> Naive {
         Naive { rows: Vec::new(heap), capacity }
     }
 
-    pub fn count(&self) -> usize {
+    pub(crate) fn count(&self) -> usize {
         self.rows.len()
     }
 
-    pub fn get(&self, id: u32) -> Option<PlainRow> {
+    pub(crate) fn get(&self, id: u32) -> Option<PlainRow> {
         for row in self.rows.iter() {
             if row.id == id {
                 return Some(*row);
@@ -30,7 +30,7 @@ impl Naive {
     }
 
     // The least of the ids that are not below `id`, by looking at each row.
-    pub fn first_from(&self, id: u32) -> Option<PlainRow> {
+    pub(crate) fn first_from(&self, id: u32) -> Option<PlainRow> {
         let mut best: Option<PlainRow> = None;
         for row in self.rows.iter() {
             if row.id >= id {
@@ -47,7 +47,7 @@ impl Naive {
     }
 
     // The row that has as many smaller ids beside it as `place` says.
-    pub fn row_at(&self, place: usize) -> Option<PlainRow> {
+    pub(crate) fn row_at(&self, place: usize) -> Option<PlainRow> {
         for row in self.rows.iter() {
             let mut smaller = 0usize;
             for other in self.rows.iter() {
@@ -62,7 +62,7 @@ impl Naive {
         None
     }
 
-    pub fn add(&mut self, row: PlainRow) -> Result<Result<(), Refusal>, AllocError> {
+    pub(crate) fn add(&mut self, row: PlainRow) -> Result<Result<(), Refusal>, AllocError> {
         if self.get(row.id).is_some() {
             return Ok(Err(Refusal::IdInUse));
         }
@@ -73,7 +73,7 @@ impl Naive {
         Ok(Ok(()))
     }
 
-    pub fn set_end(&mut self, id: u32, end: u32) -> Result<(), Refusal> {
+    pub(crate) fn set_end(&mut self, id: u32, end: u32) -> Result<(), Refusal> {
         for i in 0..self.rows.len() {
             let row = self.rows[i];
             if row.id == id {
@@ -89,7 +89,7 @@ impl Naive {
         Err(Refusal::NoSuchRow)
     }
 
-    pub fn remove(&mut self, id: u32) -> Result<(), Refusal> {
+    pub(crate) fn remove(&mut self, id: u32) -> Result<(), Refusal> {
         for i in 0..self.rows.len() {
             if self.rows[i].id == id {
                 let _ = self.rows.remove(i);
@@ -99,7 +99,7 @@ impl Naive {
         Err(Refusal::NoSuchRow)
     }
 
-    pub fn purge(&mut self, heap: Global, below: u32) -> Result<usize, AllocError> {
+    pub(crate) fn purge(&mut self, heap: Global, below: u32) -> Result<usize, AllocError> {
         let mut kept = Vec::new(heap);
         for row in self.rows.iter() {
             if row.span.end() >= below {

@@ -19,19 +19,19 @@ const SHARED: [u32; 24] = [
 ];
 
 #[derive(Drop)]
-pub struct Trial<S> {
+pub(crate) struct Trial<S> {
     heap: Global,
     store: S,
     naive: Naive,
     draws: Draws,
     clock: u32,
-    pub agreed: u32,
-    pub refused: u32,
-    pub fullest: usize,
+    pub(crate) agreed: u32,
+    pub(crate) refused: u32,
+    pub(crate) fullest: usize,
 }
 
 impl<S: Store + Drop> Trial<S> {
-    pub fn new(heap: Global, seed: u32) -> Trial<S> {
+    pub(crate) fn new(heap: Global, seed: u32) -> Trial<S> {
         Trial {
             heap,
             store: S::new(),
@@ -45,7 +45,7 @@ impl<S: Store + Drop> Trial<S> {
     }
 
     // One call of each kind by chance; adding is the commonest, so that the store fills.
-    pub fn step(&mut self) -> Result<(), AllocError> {
+    pub(crate) fn step(&mut self) -> Result<(), AllocError> {
         let same = match self.draws.below(32) {
             0..=13 => self.adds()?,
             14..=16 => self.sets_end(),
