@@ -1,10 +1,10 @@
 -- What the listed slots hold: the row of an id is found through the slot of the id.
-use Prim.Native.Nat.{ℕ, zero, suc, _<_, _≤_}
+use Prim.Native.Nat.{ℕ, _<_}
 use native.Mathlib.Omega.{arith}
 use mathlib.Core.Path.{_≡_, refl, sym, ap, subst, _∙_}
-use mathlib.Core.Bool.{Bool, true, false, cond, _||_}
+use mathlib.Core.Bool.{true, false}
 use mathlib.Core.Logic.{⊎-elim}
-use mathlib.Core.List.{List, [], _∷_, map}
+use mathlib.Core.List.{List, [], _∷_}
 use lib.Dec.{eqb}
 use lib.ListN.{length, getD, set}
 use Rattle.std.proofs.shelf.Lists.{getD-set-same, getD-set-other}
@@ -16,7 +16,6 @@ use Rattle.rows.specs.Rows.{Plain, with-end}
 use Rattle.receipts.specs.Stores.{Above, Rising, found, holds-id, end-set}
 use Rattle.stores.specs.Places.{id-of, has-id}
 use Rattle.stores.proofs.Places.{found-above, holds-found}
-use Rattle.tables.proofs.Found.{none-some}
 use Rattle.hashed.specs.Listing.{or-blank, row-in, rows-in, listed}
 
 some-row : (c : Option Plain) → isSome c ≡ true → c ≡ Some (or-blank c)

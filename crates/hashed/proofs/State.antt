@@ -16,7 +16,7 @@ use Rattle.rows.specs.Rows.{Plain, standing}
 use Rattle.receipts.specs.Stores.{Rising, nth-row}
 use Rattle.stores.specs.Told.{Numbered, Standing}
 use Rattle.stores.specs.Places.{below, id-of, place}
-use Rattle.stores.proofs.Places.{below-map, rises-rising, nth-getD}
+use Rattle.stores.proofs.Places.{below-map, rises-rising}
 use Rattle.stores.proofs.Plains.{span-lawful}
 use Rattle.tables.specs.declared.slot.Slot.{Slot}
 use Rattle.tables.specs.declared.slot.Slot.the-variants.{Empty, Deleted, Full}

@@ -6,7 +6,7 @@ use mathlib.Core.Bool.{true, false}
 use mathlib.Core.Logic.{⊎-elim}
 use mathlib.Core.List.{List}
 use lib.ListN.{length, getD, set, take}
-use Rattle.std.proofs.shelf.Lists.{length-map, length-take-le}
+use Rattle.std.proofs.shelf.Lists.{length-take-le}
 use Rattle.std.proofs.shelf.Tests.{false≢true, true≢false}
 use Rattle.std.specs.Holes.{inserted, removed}
 use Rattle.std.specs.Options.{isSome}
@@ -20,7 +20,7 @@ use Rattle.stores.specs.Places.{id-of, place, has-id}
 use Rattle.stores.proofs.Outcomes.{adds-held, adds-full, adds-done}
 use Rattle.stores.proofs.Places.{below-le, holds-found}
 use Rattle.tables.specs.declared.table.Table.{Table}
-use Rattle.tables.specs.Cells.{slot-of, filled, placing, puts, spanned}
+use Rattle.tables.specs.Cells.{slot-of, filled, placing, puts}
 use Rattle.tables.specs.Tables.{cells}
 use Rattle.tables.proofs.Found.{slot-of-has}
 use Rattle.tables.proofs.Free.{free-slot-free, filled-more, filled-same, filled-less}
@@ -72,6 +72,9 @@ module _ (s : HashedStore) where
       absent-told (Some i) e h = absurd (true≢false h)
 
   -- a row that the table takes
+  pub put-slot : (t : Table) (r : Plain) (i : ℕ) → placing (Ok i) (cells t) ≡ puts r cs → i < 512
+  put-slot t r i told = free-slot-free (r .id) cs i (put-told r cs (cells t) i told .free) .0
+
   module _ (t : Table) (r : Plain) (i : ℕ) (told : placing (Ok i) (cells t) ≡ puts r cs) (count at : ℕ) (counted : count ≡ filled cs) (here : at ≡ place (r .id) (held s)) where
     absent : holds-id (r .id) (held s) ≡ false
     absent = holds-found (r .id) (held s) ∙ ap isSome (absent-at cs _ _ (good-of s) (r .id) (put-told r cs (cells t) i told .absent))

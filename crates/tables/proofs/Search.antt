@@ -1,16 +1,13 @@
 -- The search for an id through the slots ends at the slot of the id.
 use Prim.Native.Nat.{ℕ, zero, suc}
-use native.Mathlib.Omega.{arith}
 use mathlib.Core.Path.{_≡_, refl, sym, ap, subst, _∙_}
 use mathlib.Core.Bool.{Bool, true, false, cond}
 use mathlib.Core.Logic.{_⊎_, inl, inr, ⊎-elim}
 use mathlib.Core.List.{List, map}
 use lib.Dec.{eqb}
 use lib.ListN.{length, getD}
-use Rattle.std.proofs.shelf.Tests.{cases-bool}
 use Rattle.std.specs.declared.option.Option.{Option}
 use Rattle.std.specs.declared.option.Option.the-variants.{Some, None}
-use Rattle.rows.specs.Rows.{Plain}
 use Rattle.stores.specs.Places.{has-id}
 use Rattle.tables.specs.declared.slot.Slot.{Slot}
 use Rattle.tables.specs.declared.slot.Slot.the-variants.{Empty, Deleted, Full}

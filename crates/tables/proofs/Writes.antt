@@ -1,6 +1,5 @@
 -- What a write to a slot leaves: every row is still reached.
 use Prim.Native.Nat.{ℕ, zero, suc, _<_}
-use native.Mathlib.Omega.{arith}
 use mathlib.Core.Path.{_≡_, refl, sym, ap, subst, _∙_}
 use mathlib.Core.Bool.{Bool, true, false, cond}
 use mathlib.Core.Logic.{_≢_, _⊎_, inl, inr, ⊎-elim}
@@ -18,7 +17,7 @@ use Rattle.stores.specs.Places.{has-id}
 use Rattle.tables.specs.declared.slot.Slot.{Slot}
 use Rattle.tables.specs.declared.slot.Slot.the-variants.{Empty, Deleted, Full}
 use Rattle.tables.specs.Cells.{slot-of, home, next, free-from, free-slot}
-use Rattle.tables.specs.Slots.{cell, Look, stop, pass, hit, look, by-look, sought-from, sought, Reached}
+use Rattle.tables.specs.Slots.{cell, stop, pass, hit, look, by-look, sought-from, sought, Reached}
 use Rattle.tables.proofs.Found.{none-some, some-is-slot, cell-at, slot-of-none}
 use Rattle.tables.proofs.Search.{sought-has, reached-at, Alike, sought-alike, full-passed, passed}
 

@@ -4,7 +4,7 @@
 --     home id                     the slot where the search for an id begins
 --     next i                      the slot that a search comes to after i; behind the last is the first
 --     free-slot id cs             the first slot without a row in the search for an id, or none
---     Placing                     what putting a row in answers, its slot or a refusal, and what it leaves
+--     Placing, placing a cs       what putting a row in answers, its slot or a refusal, and what it leaves
 --     puts r cs                   putting r in: IdInUse where its id is held, else StoreFull at 256 rows or where no slot is free
 --     spanned start end c         the cell c with another start and end for its row
 use Prim.Native.Nat.{ℕ, zero, suc, _+_, _*_, _/_, _%_, _^_}

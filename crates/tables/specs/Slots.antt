@@ -1,5 +1,6 @@
 -- A table's slots, and the search through them.
 --     cell s                      what the slot s holds
+--     is-deleted s                the slot s held a row that went
 --     look id s                   what a search for an id does at the slot s: stop, pass, or hit
 --     sought id slots             where the search for an id ends at its row, or none
 --     is-slot i o                 o is the slot i
@@ -22,6 +23,11 @@ abbrev pub cell : Slot → Option Plain
 cell Empty = None
 cell Deleted = None
 cell (Full r) = Some (plain r)
+
+abbrev pub is-deleted : Slot → Bool
+is-deleted Empty = false
+is-deleted Deleted = true
+is-deleted (Full r) = false
 
 pub data Look : Type 0 where
   stop : Look

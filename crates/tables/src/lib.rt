@@ -1,3 +1,4 @@
 // A table of rows that are found by a hash of their id.
-pub mod slot;
+mod home;
+mod slot;
 pub mod table;

@@ -7,7 +7,8 @@ ghost use Rattle.tables.specs.Cells.{filled};
 ghost use Rattle.tables.specs.Slots.{cell, Reached};
 use crate::slot::Slot;
 
-pub mod calls;
+pub mod changes;
+pub mod questions;
 
 pub const SLOTS: usize = 512;
 

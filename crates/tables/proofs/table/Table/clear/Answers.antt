@@ -8,6 +8,7 @@ use Rattle.tables.specs.Cells.{filled}
 use Rattle.tables.specs.Slots.{cell}
 use Rattle.tables.specs.Tables.{cells}
 use Rattle.tables.proofs.Found.{seen-some, seen-none, seen-within}
+use Rattle.tables.proofs.Deleted.{deleted-more}
 use Rattle.tables.proofs.Free.{filled-less}
 use Rattle.tables.proofs.Writes.{reached-deleted}
 use Rattle.tables.proofs.table.Table.clear.Needs as need
@@ -43,10 +44,17 @@ ghost-self c =
     , (omega (arith, t .within), (omega (arith, t .counted, less, ap filled (map-set cell (t .slots) i Deleted)), (reached-deleted (t .slots) i l (t .reached), tt))) )
 
 pub returns-then-is-some : need.returns-then-is-some
-returns-then-is-some c = map-set cell (c .args .self .now .slots) (c .args .slot) Deleted
+returns-then-is-some c =
+    let t = c .args .self .now in
+    let i = c .args .slot in
+    record {
+      after = map-set cell (t .slots) i Deleted;
+      deleted = deleted-more (t .slots) i (seen-within (t .slots) i (c .row-in .result) (c .row-in .ensures) (sym (c .if-is-some .ensures tt))) }
 
 pub returns-else-is-some : need.returns-else-is-some
 returns-else-is-some c =
     let cs = cells (c .args .self .now) in
     let none = seen-none (c .row-in .result) _ (c .row-in .ensures) (sym (c .if-is-some .ensures tt)) in
-    sym (ap (set cs (c .args .slot)) (sym none) ∙ set-getD cs (c .args .slot) None)
+    record {
+      after = sym (ap (set cs (c .args .slot)) (sym none) ∙ set-getD cs (c .args .slot) None);
+      deleted = omega arith }

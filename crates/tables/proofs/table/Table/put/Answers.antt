@@ -12,6 +12,7 @@ use Rattle.tables.specs.Cells.{filled, slot-of, placing, puts-at}
 use Rattle.tables.specs.Slots.{cell}
 use Rattle.tables.specs.Tables.{cells}
 use Rattle.tables.proofs.Found.{cell-at, no-some}
+use Rattle.tables.proofs.Deleted.{deleted-full}
 use Rattle.tables.proofs.Free.{free-slot-free, filled-more}
 use Rattle.tables.proofs.Writes.{reached-put}
 use Rattle.tables.proofs.table.Table.put.Needs as need
@@ -44,7 +45,12 @@ pub returns-in-Some : need.returns-in-Some
 returns-in-Some c =
     let t = c .args .self .now in
     let r = c .args .row in
-    ap (placing (Ok (c .in-Some .slot))) (map-set cell (t .slots) (c .in-Some .slot) (Full r))
-    ∙ ap (λ o. puts-at o (plain r) (cells t)) (c .in-Some .ensures tt)
-    ∙ sym (cond-false _ _ _ (lt-leb 256 (filled (cells t)) (omega (arith, t .counted, t .within, c .if-self-eq-CAPACITY .left))))
-    ∙ sym (cond-false _ _ _ (ap isSome (sym (c .slot-of .ensures)) ∙ sym (c .if-is-some .ensures tt)))
+    let i = c .in-Some .slot in
+    let free = free-slot-free (r .id) (cells t) i (sym (c .in-Some .ensures tt)) in
+    record {
+      told =
+        ap (placing (Ok i)) (map-set cell (t .slots) i (Full r))
+        ∙ ap (λ o. puts-at o (plain r) (cells t)) (c .in-Some .ensures tt)
+        ∙ sym (cond-false _ _ _ (lt-leb 256 (filled (cells t)) (omega (arith, t .counted, t .within, c .if-self-eq-CAPACITY .left))))
+        ∙ sym (cond-false _ _ _ (ap isSome (sym (c .slot-of .ensures)) ∙ sym (c .if-is-some .ensures tt)));
+      deleted = deleted-full (t .slots) i r (omega (arith, free .0, t .long)) }

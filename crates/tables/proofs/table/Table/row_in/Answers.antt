@@ -1,6 +1,5 @@
 use native.Mathlib.Omega.{arith}
 use mathlib.Core.Path.{refl, sym, _∙_}
-use lib.ListN.{length}
 use Rattle.std.proofs.shelf.Lists.{getD-past, length-map}
 use Rattle.std.specs.declared.option.Option.the-variants.{None}
 use Rattle.tables.specs.Slots.{cell}

@@ -7,6 +7,7 @@ use Rattle.tables.specs.Cells.{filled, spanned}
 use Rattle.tables.specs.Slots.{cell}
 use Rattle.tables.specs.Tables.{cells}
 use Rattle.tables.proofs.Found.{cell-at, seen-within}
+use Rattle.tables.proofs.Deleted.{deleted-full}
 use Rattle.tables.proofs.Free.{filled-same}
 use Rattle.tables.proofs.Writes.{reached-over}
 use Rattle.tables.proofs.table.Table.set_span.Needs as need
@@ -37,12 +38,16 @@ pub returns-in-None : need.returns-in-None
 returns-in-None c =
     let cs = cells (c .args .self .now) in
     let i = c .args .slot in
-    sym (ap (λ z. set cs i (spanned (c .args .span .start) (c .args .span .end) z)) (sym (c .in-None .ensures tt))
-      ∙ ap (set cs i) (c .in-None .ensures tt) ∙ set-getD cs i None)
+    record {
+      after = sym (ap (λ z. set cs i (spanned (c .args .span .start) (c .args .span .end) z)) (sym (c .in-None .ensures tt))
+        ∙ ap (set cs i) (c .in-None .ensures tt) ∙ set-getD cs i None);
+      deleted = omega arith }
 
 pub returns-in-Some : need.returns-in-Some
 returns-in-Some c =
     let t = c .args .self .now in
     let i = c .args .slot in
-    map-set cell (t .slots) i _
-      ∙ ap (λ z. set (cells t) i (spanned (c .args .span .start) (c .args .span .end) z)) (c .in-Some .ensures tt)
+    record {
+      after = map-set cell (t .slots) i _
+        ∙ ap (λ z. set (cells t) i (spanned (c .args .span .start) (c .args .span .end) z)) (c .in-Some .ensures tt);
+      deleted = deleted-full (t .slots) i _ (seen-within (t .slots) i (Some (c .in-Some .row)) (c .in-Some .ensures tt) refl) }

@@ -1,9 +1,6 @@
 use native.Mathlib.Omega.{arith}
-use mathlib.Core.Path.{sym, ap, _∙_}
-use lib.ListN.{getD}
-use Rattle.std.specs.declared.option.Option.the-variants.{None}
+use mathlib.Core.Path.{sym, _∙_}
 use Rattle.stores.proofs.Places.{nth-past}
-use Rattle.tables.specs.Tables.{cells}
 use Rattle.hashed.specs.Model.{held}
 use Rattle.hashed.proofs.State.{length-held, nth-told}
 use Rattle.hashed.proofs.store.calls.HashedRows.row_at.Needs as need

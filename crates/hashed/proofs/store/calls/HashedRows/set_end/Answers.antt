@@ -1,3 +1,4 @@
+use native.Mathlib.Omega.{arith}
 use mathlib.Core.Path.{sym, ap, _∙_}
 use Rattle.std.proofs.shelf.Results.{err-from-errBy}
 use Rattle.std.specs.declared.result.Result.the-variants.{Err}
@@ -29,11 +30,11 @@ pub ghost-self : need.ghost-self
 ghost-self c =
     let s = c .args .self .now in
     let good = set-good s (c .args .id) _ (sym (c .in-Some .ensures tt)) _ (c .in-Some-row-in .ensures tt) _ (c .args .end) (c .start .ensures)
-                 (c .in-Continue-span .span) (c .in-Continue-span .ensures tt) (c .set-span .last .self) (c .set-span .ensures) in
-    (s .wide, (s .long, (good .named, (ordered-from _ _ _ good, (good .matched, tt)))))
+                 (c .in-Continue-span .span) (c .in-Continue-span .ensures tt) (c .set-span .last .self) (c .set-span .ensures .after) in
+    (s .wide, (s .long, (good .named, (ordered-from _ _ _ good, (good .matched, (omega (arith, c .set-span .ensures .deleted, s .worn), (s .recent, tt)))))))
 
 pub returns : need.returns
 returns c =
     let s = c .args .self .now in
     set-done s (c .args .id) _ (sym (c .in-Some .ensures tt)) _ (c .in-Some-row-in .ensures tt) _ (c .args .end) (c .start .ensures)
-    (c .in-Continue-span .span) (c .in-Continue-span .ensures tt) (c .set-span .last .self) (c .set-span .ensures)
+    (c .in-Continue-span .span) (c .in-Continue-span .ensures tt) (c .set-span .last .self) (c .set-span .ensures .after)

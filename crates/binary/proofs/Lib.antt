@@ -1,0 +1,4 @@
+pub mod KindBytes
+pub mod Left
+pub mod Exact
+pub mod Canonical

@@ -1,0 +1,5 @@
+pub mod Binding
+pub mod Ones
+pub mod Courses
+pub mod Steps
+pub mod Exact

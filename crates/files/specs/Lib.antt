@@ -1,0 +1,4 @@
+pub mod Judging
+pub mod Orders
+pub mod Reading
+pub mod Readers
