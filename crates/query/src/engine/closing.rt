@@ -1,7 +1,7 @@
 // Closing the next window.
 ghost use mathlib.Core.Path.{_≡_};
 ghost use lib.ListN.{length, drop};
-ghost use Rattle.receipts.specs.Queries.{called, closing};
+ghost use Rattle.receipts.specs.Queries.{called, closing, may-close};
 ghost use Rattle.query.specs.Answers.{answers, closing-told, lines-told};
 ghost use Rattle.query.specs.Queries.{setup, state};
 use joining::handing::hand_out;
@@ -14,6 +14,14 @@ use stores::store::Store;
 use crate::engine::Query;
 
 impl<L: Payload, R: Payload, S: Store, T: Store> Query<L, R, S, T> {
+    // Whether a closing is allowed: neither CTI is below the next window's end.
+    pub fn may_close(&self) -> bool
+        ensures { λ r. ⌜ r ≡ may-close (setup (L·Payload .kind) (R·Payload .kind) (S·Store .capacity) (T·Store .capacity) (now (self .entry)))
+            (state (S·Store .rows) (T·Store .rows) (now (self .entry))) ⌝ }
+    {
+        self.closed + self.width <= self.left.cti().min(self.right.cti())
+    }
+
     // Closes the next window: writes its lines over the first places, and purges the rows that end below its end. NotYet
     // where a CTI is below that end, LinesFull where there are more lines than places. A refused closing changes nothing.
     pub fn close(&mut self, lines: &mut [Line]) -> Result<Window, Fault>

@@ -1,6 +1,6 @@
 // What a query tells of itself.
 ghost use mathlib.Core.Path.{_≡_};
-ghost use Rattle.receipts.specs.Queries.{closed-time, cti-of, held-of, asked, may-close};
+ghost use Rattle.receipts.specs.Queries.{closed-time, cti-of, held-of, asked};
 ghost use Rattle.query.specs.Queries.{setup, state};
 use refusals::fault::Side;
 use rows::payload::Payload;
@@ -40,13 +40,5 @@ impl<L: Payload, R: Payload, S: Store, T: Store> Query<L, R, S, T> {
             Side::Left => self.left.held(),
             Side::Right => self.right.held(),
         }
-    }
-
-    // Whether a closing is allowed: neither CTI is below the next window's end.
-    pub fn may_close(&self) -> bool
-        ensures { λ r. ⌜ r ≡ may-close (setup (L·Payload .kind) (R·Payload .kind) (S·Store .capacity) (T·Store .capacity) (now (self .entry)))
-            (state (S·Store .rows) (T·Store .rows) (now (self .entry))) ⌝ }
-    {
-        self.closed + self.width <= self.left.cti().min(self.right.cti())
     }
 }
