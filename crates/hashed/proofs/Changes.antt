@@ -87,18 +87,19 @@ module _ (cs : List (Option Plain)) (ids slots : List ℕ) (good : Good cs ids s
     matched-put j =
         listed-inserted j slots (place (r .id) rows) i
         ∙ ⊎-elim
-          (λ same. ap (λ b. b || listed j slots) (eq-eqb i j (sym same))
-            ∙ sym (ap isSome (ap (λ k. getD cells-put k None) same ∙ getD-set-same cs i (Some r) None within)))
-          (λ other. ap (λ b. b || listed j slots) (ne-eqb i j (λ e. other (sym e))) ∙ good .matched j
-            ∙ sym (ap isSome (getD-set-other cs i j (Some r) None other)))
-          (cases-eq j i)
+        (λ same. ap (λ b. b || listed j slots) (eq-eqb i j (sym same))
+        ∙ sym (ap isSome (ap (λ k. getD cells-put k None) same ∙ getD-set-same cs i (Some r) None within)))
+        (λ other. ap (λ b. b || listed j slots) (ne-eqb i j (λ e. other (sym e))) ∙ good .matched j
+        ∙ sym (ap isSome (getD-set-other cs i j (Some r) None other)))
+        (cases-eq j i)
 
     pub good-put : Good cells-put (inserted ids (place (r .id) rows) (r .id)) (inserted slots (place (r .id) rows) i)
     good-put = record {
       named = ap (λ z. inserted z (place (r .id) rows) (r .id)) (good .named) ∙ sym (map-inserted id-of rows (place (r .id) rows) r)
-        ∙ ap (map id-of) (sym (placed-place r rows absent) ∙ sym rows-put);
+          ∙ ap (map id-of) (sym (placed-place r rows absent) ∙ sym rows-put);
       rising = subst Rising (sym rows-put) (rising-placed r rows (good .rising) absent);
-      matched = matched-put }
+      matched = matched-put;
+    }
 
   -- the row of an id, which stands in one slot
   module _ (id i : ℕ) (here : slot-of id cs ≡ Some i) where
@@ -128,9 +129,10 @@ module _ (cs : List (Option Plain)) (ids slots : List ℕ) (good : Good cs ids s
         named = good .named ∙ sym (ids-ended id e rows) ∙ ap (map id-of) (sym rows-end);
         rising = subst Rising (sym rows-end) (rising-end-set id e rows (good .rising));
         matched = λ j. ⊎-elim
-          (λ same. ap (λ k. listed k slots) same ∙ in-list ∙ sym (matched-here (Some (with-end e (row-in cs i))) j same))
-          (λ other. sym (matched-over (Some (with-end e (row-in cs i))) j other))
-          (cases-eq j i) }
+            (λ same. ap (λ k. listed k slots) same ∙ in-list ∙ sym (matched-here (Some (with-end e (row-in cs i))) j same))
+            (λ other. sym (matched-over (Some (with-end e (row-in cs i))) j other))
+            (cases-eq j i);
+      }
 
     -- taken away
     module _ (alone : (j : ℕ) → has-id id (getD cs j None) ≡ true → j ≡ i) where
@@ -149,15 +151,15 @@ module _ (cs : List (Option Plain)) (ids slots : List ℕ) (good : Good cs ids s
           let l = place-within in
           let some = there j (listed-at slots (place id rows) d l) in
           alone j (row-has cs id j some ∙ ap (λ (x : Plain). eqb (x .id) id) (sym (getD-map (row-in cs) slots (place id rows) d (row-in cs j) l))
-            ∙ sym (ap (has-id id) (nth-getD (place id rows) rows (row-in cs j) (omega (arith, length-map slots (row-in cs))))) ∙ at-place)
+          ∙ sym (ap (has-id id) (nth-getD (place id rows) rows (row-in cs j) (omega (arith, length-map slots (row-in cs))))) ∙ at-place)
 
       not-left : listed i (removed slots (place id rows)) ≡ false
       not-left =
           ⊎-elim
           (λ h. absurd (both-ways _ (without-none id rows (good .rising))
-            (sym (ap (holds-id id) (map-removed (row-in cs) slots (place id rows) ∙ sym (without-place id rows at-place)))
-              ∙ ap (λ k. holds-id k (rows-in cs (removed slots (place id rows)))) (sym (has-row cs id i has))
-              ∙ listed-holds cs i (removed slots (place id rows)) h)))
+          (sym (ap (holds-id id) (map-removed (row-in cs) slots (place id rows) ∙ sym (without-place id rows at-place)))
+          ∙ ap (λ k. holds-id k (rows-in cs (removed slots (place id rows)))) (sym (has-row cs id i has))
+          ∙ listed-holds cs i (removed slots (place id rows)) h)))
           (λ h. h)
           (cases-bool (listed i (removed slots (place id rows))))
 
@@ -167,9 +169,10 @@ module _ (cs : List (Option Plain)) (ids slots : List ℕ) (good : Good cs ids s
       pub good-cut : Good (set cs i None) (removed ids (place id rows)) (removed slots (place id rows))
       good-cut = record {
         named = ap (λ z. removed z (place id rows)) (good .named) ∙ sym (map-removed id-of rows (place id rows))
-          ∙ ap (map id-of) (sym (without-place id rows at-place) ∙ sym rows-cut);
+            ∙ ap (map id-of) (sym (without-place id rows at-place) ∙ sym rows-cut);
         rising = subst Rising (sym rows-cut) (rising-without id rows (good .rising));
         matched = λ j. ⊎-elim
-          (λ same. ap (λ k. listed k (removed slots (place id rows))) same ∙ not-left ∙ sym (matched-here None j same))
-          (λ other. listed-removed j slots (place id rows) (λ e. other (sym e ∙ slot-there j)) ∙ sym (matched-over None j other))
-          (cases-eq j i) }
+            (λ same. ap (λ k. listed k (removed slots (place id rows))) same ∙ not-left ∙ sym (matched-here None j same))
+            (λ other. listed-removed j slots (place id rows) (λ e. other (sym e ∙ slot-there j)) ∙ sym (matched-over None j other))
+            (cases-eq j i);
+      }

@@ -50,8 +50,8 @@ module _ (s : HashedStore) (id i : ℕ) (here : slot-of id (cells (s .table)) �
           let good = span-good start e (times span) made in
           let here : row-in cs i ≡ x = ap or-blank (sym read) in
           let cell : spanned (span .start) (span .end) (getD cs i None) ≡ Some (with-end e x) =
-              ap (spanned (span .start) (span .end)) (sym read)
-              ∙ ap (λ n. spanned n (span .end) (Some x)) (good .1 ∙ started) ∙ ap (λ n. spanned (x .start) n (Some x)) (good .2) in
+          ap (spanned (span .start) (span .end)) (sym read)
+          ∙ ap (λ n. spanned n (span .end) (Some x)) (good .1 ∙ started) ∙ ap (λ n. spanned (x .start) n (Some x)) (good .2) in
           told ∙ ap (set cs i) (cell ∙ ap (λ z. Some (with-end e z)) (sym here))
 
       pub set-good : Good (cells t) (in-use t (s .ids)) (in-use t (s .slots))

@@ -60,23 +60,23 @@ module _ (cs : List (Option Plain)) where
   pub not-before : (i j : ℕ) (slots : List ℕ) → Above (row-in cs j .id) (rows-in cs slots) → listed i slots ≡ true → eqb (row-in cs j .id) (row-in cs i .id) ≡ false
   not-before i j slots above h =
       ne-eqb _ _ (λ same. both-ways _
-        (holds-found _ (rows-in cs slots) ∙ ap isSome (found-above _ (row-in cs i .id) (rows-in cs slots) above (omega arith))) (listed-holds i slots h))
+      (holds-found _ (rows-in cs slots) ∙ ap isSome (found-above _ (row-in cs i .id) (rows-in cs slots) above (omega arith))) (listed-holds i slots h))
 
   pub found-listed : (i : ℕ) (slots : List ℕ) → listed i slots ≡ true → Rising (rows-in cs slots) → found (row-in cs i .id) (rows-in cs slots) ≡ Some (row-in cs i)
   found-listed i [] h rising = absurd (false≢true h)
   found-listed i (j ∷ slots) h rising =
       ⊎-elim
       (λ e. let same : row-in cs j ≡ row-in cs i = ap (row-in cs) (eqb-true j i e) in
-            cond-true _ _ _ (eq-eqb _ _ (ap id-of same)) ∙ ap Some same)
+      cond-true _ _ _ (eq-eqb _ _ (ap id-of same)) ∙ ap Some same)
       (λ e. cond-false _ _ _ (not-before i j slots (rising .0) e) ∙ found-listed i slots e (rising .1))
       (or-cases (eqb j i) (listed i slots) h)
 
   pub found-none : (id : ℕ) (slots : List ℕ) → ((i : ℕ) → listed i slots ≡ true → isSome (getD cs i None) ≡ true) → ((i : ℕ) → has-id id (getD cs i None) ≡ true → ⊥)
-    → found id (rows-in cs slots) ≡ None
+      → found id (rows-in cs slots) ≡ None
   found-none id [] there absent = refl
   found-none id (j ∷ slots) there absent =
       cond-false _ _ _ (ne-eqb (row-in cs j .id) id (λ e.
-        absent j (row-has id j (there j (or-left _ _ (eq-eqb j j refl))) ∙ eq-eqb _ _ e)))
+      absent j (row-has id j (there j (or-left _ _ (eq-eqb j j refl))) ∙ eq-eqb _ _ e)))
       ∙ found-none id slots (λ i h. there i (or-right (eqb j i) _ h)) absent
 
   -- a write to a slot that is not listed
@@ -89,25 +89,26 @@ module _ (cs : List (Option Plain)) where
 
   -- a row that is given another end
   pub rows-ended : (i e : ℕ) (slots : List ℕ) → i < length cs → listed i slots ≡ true → Rising (rows-in cs slots)
-    → rows-in (set cs i (Some (with-end e (row-in cs i)))) slots ≡ end-set (row-in cs i .id) e (rows-in cs slots)
+      → rows-in (set cs i (Some (with-end e (row-in cs i)))) slots ≡ end-set (row-in cs i .id) e (rows-in cs slots)
   rows-ended i e [] within h rising = refl
   rows-ended i e (j ∷ slots) within h rising =
       ⊎-elim
       (λ first.
-        let same : j ≡ i = eqb-true j i first in
-        ap (λ k. row-in changed k ∷ rows-in changed slots) same
-        ∙ ap (λ z. or-blank z ∷ rows-in changed slots) (getD-set-same cs i (Some ended) None within)
-        ∙ ap (λ z. ended ∷ z) (rows-same i (Some ended) slots (not-behind i slots (subst (λ k. Above (row-in cs k .id) (rows-in cs slots)) same (rising .0))))
-        ∙ ap (λ k. with-end e (row-in cs k) ∷ rows-in cs slots) (sym same)
-        ∙ sym (cond-true _ _ _ (eq-eqb _ _ (ap (λ k. row-in cs k .id) same))))
+      let same : j ≡ i = eqb-true j i first in
+      ap (λ k. row-in changed k ∷ rows-in changed slots) same
+      ∙ ap (λ z. or-blank z ∷ rows-in changed slots) (getD-set-same cs i (Some ended) None within)
+      ∙ ap (λ z. ended ∷ z) (rows-same i (Some ended) slots (not-behind i slots (subst (λ k. Above (row-in cs k .id) (rows-in cs slots)) same (rising .0))))
+      ∙ ap (λ k. with-end e (row-in cs k) ∷ rows-in cs slots) (sym same)
+      ∙ sym (cond-true _ _ _ (eq-eqb _ _ (ap (λ k. row-in cs k .id) same))))
       (λ later.
-        let before = not-before i j slots (rising .0) later in
-        ap (λ z. or-blank z ∷ rows-in changed slots) (getD-set-other cs i j (Some ended) None (λ same. eqb-false _ _ before (ap (λ k. row-in cs k .id) same)))
-        ∙ ap (λ z. row-in cs j ∷ z) (rows-ended i e slots within later (rising .1))
-        ∙ sym (cond-false _ _ _ before))
+      let before = not-before i j slots (rising .0) later in
+      ap (λ z. or-blank z ∷ rows-in changed slots) (getD-set-other cs i j (Some ended) None (λ same. eqb-false _ _ before (ap (λ k. row-in cs k .id) same)))
+      ∙ ap (λ z. row-in cs j ∷ z) (rows-ended i e slots within later (rising .1))
+      ∙ sym (cond-false _ _ _ before))
       (or-cases (eqb j i) (listed i slots) h)
     where
       ended : Plain
       ended = with-end e (row-in cs i)
+
       changed : List (Option Plain)
       changed = set cs i (Some ended)

@@ -87,7 +87,7 @@ module _ (g i : ℕ) (m : List Plain) (x : Plain) (within : i < length m) (read 
     pub kept-added : length m ≤ 256 → (a : Result (Unit {0}) Refusal) (new : List Plain) → outcome a new ≡ adds 256 x front → new ≡ kept g (take (i + 1) m)
     kept-added room a new told =
         ap (λ (o : Outcome (List Plain)). o .after) (told ∙ sym (last-added front x rising-more
-          (omega (arith, ap length is, kept-le g (take i m), length-take i m))))
+        (omega (arith, ap length is, kept-le g (take i m), length-take i m))))
         ∙ ap (λ z. z ++ x ∷ []) is ∙ sym (kept-more stays)
 
 -- every row is kept

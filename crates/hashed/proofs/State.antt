@@ -74,7 +74,7 @@ rises-ids m rising i j d le lt =
     omega (arith, up, getD-map id-of m i (or-blank None) d (omega arith), getD-map id-of m j (or-blank None) d (omega arith))
 
 pub place-told : (id k : ℕ) (ids : List ℕ) (m : List Plain) → ids ≡ map id-of m → Rising m
-  → (Rises (λ (n : ℕ). n) ids → k ≡ below (λ (n : ℕ). n) id ids) → k ≡ place id m
+    → (Rises (λ (n : ℕ). n) ids → k ≡ below (λ (n : ℕ). n) id ids) → k ≡ place id m
 place-told id k ids m named rising told =
     subst (λ z. Rises (λ (n : ℕ). n) z → k ≡ below (λ (n : ℕ). n) id z) named told (rises-ids m rising) ∙ below-map (λ (n : ℕ). n) id-of id m
 

@@ -57,16 +57,18 @@ module _ (s : HashedStore) where
   -- a row that the table refuses
   pub refused : (t : Table) (r : Plain) (why : Refusal) → placing (Err why) (cells t) ≡ puts r cs → (cells t ≡ cs) × (refuse why (held s) ≡ adds 256 r (held s))
   refused t r why e =
-      let told = put-refused r cs (cells t) why (length-cells (s .table)) e in
-      ( told .same
-      , ⊎-elim
-        (λ h. ap (λ z. refuse z (held s)) (h .0) ∙ adds-held 256 r (held s) (held-told (slot-of (r .id) cs) refl (h .1)))
-        (λ h. ap (λ z. refuse z (held s)) (h .0) ∙ adds-full 256 r (held s) (absent-told (slot-of (r .id) cs) refl (h .1)) (omega (arith, length-held s, h .2)))
-        (told .cause) )
+      let told = put-refused r cs (cells t) why (length-cells (s .table)) e in (
+        told .same,
+        ⊎-elim
+            (λ h. ap (λ z. refuse z (held s)) (h .0) ∙ adds-held 256 r (held s) (held-told (slot-of (r .id) cs) refl (h .1)))
+            (λ h. ap (λ z. refuse z (held s)) (h .0) ∙ adds-full 256 r (held s) (absent-told (slot-of (r .id) cs) refl (h .1)) (omega (arith, length-held s, h .2)))
+            (told .cause),
+      )
     where
       held-told : (o : Option ℕ) → slot-of (r .id) cs ≡ o → isSome o ≡ true → holds-id (r .id) (held s) ≡ true
       held-told None e h = absurd (false≢true h)
       held-told (Some i) e h = held-at cs _ _ (good-of s) (r .id) i e
+
       absent-told : (o : Option ℕ) → slot-of (r .id) cs ≡ o → isSome o ≡ false → holds-id (r .id) (held s) ≡ false
       absent-told None e h = holds-found (r .id) (held s) ∙ ap isSome (absent-at cs _ _ (good-of s) (r .id) e)
       absent-told (Some i) e h = absurd (true≢false h)

@@ -57,8 +57,8 @@ pub free-slot-some : (id : ℕ) (cs : List (Option Plain)) → length cs ≡ 512
 unfolding free-slot
 free-slot-some id cs long few e =
     let full = all-filled cs (λ j h.
-          subst (λ k. isSome (getD cs k None) ≡ true) (turned (home id) j (home-within id) (omega arith))
-            (held-from (length cs) (home id) cs (home-within id) e ((j + (512 - home id)) % 512) (omega arith))) in
+    subst (λ k. isSome (getD cs k None) ≡ true) (turned (home id) j (home-within id) (omega arith))
+    (held-from (length cs) (home id) cs (home-within id) e ((j + (512 - home id)) % 512) (omega arith))) in
     omega arith
 
 -- how many rows there are after a write

@@ -37,7 +37,7 @@ err-ok why i e = let z : _≡_ {A = ℕ} 0 1 = cc in omega arith
 
 module _ (r : Plain) (cs new : List (Option Plain)) where
   done : (i : ℕ) (a b : Bool) (f : Option ℕ) → placing (Ok i) new ≡ cond a (placing (Err IdInUse) cs) (cond b (placing (Err StoreFull) cs) (puts-at f r cs))
-    → (a ≡ false) × (b ≡ false) × (f ≡ Some i) × (new ≡ set cs i (Some r))
+      → (a ≡ false) × (b ≡ false) × (f ≡ Some i) × (new ≡ set cs i (Some r))
   done i true b f e = absurd (err-ok IdInUse i (sym (ap (λ (p : Placing). p .answer) e)))
   done i false true f e = absurd (err-ok StoreFull i (sym (ap (λ (p : Placing). p .answer) e)))
   done i false false None e = absurd (err-ok StoreFull i (sym (ap (λ (p : Placing). p .answer) e)))
@@ -52,7 +52,7 @@ module _ (r : Plain) (cs new : List (Option Plain)) where
       record { absent = no-some (slot-of (r .id) cs) (d .0); room = leb-false 256 (filled cs) (d .1); free = d .2; after = d .3 }
 
   undone : (why : Refusal) (a b : Bool) (f : Option ℕ) → placing (Err why) new ≡ cond a (placing (Err IdInUse) cs) (cond b (placing (Err StoreFull) cs) (puts-at f r cs))
-    → (b ≡ false → f ≡ None → ⊥) → (new ≡ cs) × (((why ≡ IdInUse) × (a ≡ true)) ⊎ ((why ≡ StoreFull) × (a ≡ false) × (b ≡ true)))
+      → (b ≡ false → f ≡ None → ⊥) → (new ≡ cs) × (((why ≡ IdInUse) × (a ≡ true)) ⊎ ((why ≡ StoreFull) × (a ≡ false) × (b ≡ true)))
   undone why true b f e full = let answers = ap (λ (p : Placing). p .answer) e in (ap (λ (p : Placing). p .after) e, inl (cc, refl))
   undone why false true f e full = let answers = ap (λ (p : Placing). p .answer) e in (ap (λ (p : Placing). p .after) e, inr (cc, refl, refl))
   undone why false false None e full = absurd (full refl refl)
@@ -61,5 +61,5 @@ module _ (r : Plain) (cs new : List (Option Plain)) where
   pub put-refused : (why : Refusal) → length cs ≡ 512 → placing (Err why) new ≡ puts r cs → Refused r why cs new
   put-refused why long e =
       let d = undone why (isSome (slot-of (r .id) cs)) (leb 256 (filled cs)) (free-slot (r .id) cs) e
-                (λ few none. free-slot-some (r .id) cs long (omega (arith, leb-false 256 (filled cs) few)) none) in
+      (λ few none. free-slot-some (r .id) cs long (omega (arith, leb-false 256 (filled cs) few)) none) in
       record { same = d .0; cause = ⊎-elim inl (λ h. inr (h .0, h .1, leb-true 256 (filled cs) (h .2))) (d .1) }

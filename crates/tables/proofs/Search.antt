@@ -28,7 +28,7 @@ found-has : (n i id : ℕ) (slots : List Slot) (j : ℕ) → sought-from n i id 
 found-has zero i id slots j e = absurd (none-some j e)
 found-has (suc n) i id slots j e =
     ⊎-elim (λ h. subst (λ k. has-id id (cell (getD slots k Empty)) ≡ true) (h .0) (h .1)) (found-has n (next i) id slots j)
-      (met (getD slots i Empty) id i j _ e)
+    (met (getD slots i Empty) id i j _ e)
 
 pub sought-has : (id : ℕ) (slots : List Slot) (j : ℕ) → sought id slots ≡ Some j → has-id id (cell (getD slots j Empty)) ≡ true
 unfolding sought
@@ -63,10 +63,10 @@ found-alike : (n i id j : ℕ) (slots others : List Slot) → Alike id slots oth
 found-alike zero i id j slots others a e = e
 found-alike (suc n) i id j slots others a e =
     ⊎-elim
-      (λ s. absurd (none-some j (sym (ap (λ l. by-look l (Some i) (sought-from n (next i) id slots)) s) ∙ e)))
-      (λ s. ap (λ l. by-look l (Some i) (sought-from n (next i) id others)) s
-        ∙ on-alike (look id (getD slots i Empty)) i j _ _ (found-alike n (next i) id j slots others a) e)
-      (a i)
+    (λ s. absurd (none-some j (sym (ap (λ l. by-look l (Some i) (sought-from n (next i) id slots)) s) ∙ e)))
+    (λ s. ap (λ l. by-look l (Some i) (sought-from n (next i) id others)) s
+    ∙ on-alike (look id (getD slots i Empty)) i j _ _ (found-alike n (next i) id j slots others a) e)
+    (a i)
 
 pub sought-alike : (id j : ℕ) (slots others : List Slot) → Alike id slots others → length others ≡ length slots → sought id slots ≡ Some j → sought id others ≡ Some j
 unfolding sought

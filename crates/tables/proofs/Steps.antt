@@ -33,7 +33,7 @@ module _ (id : ℕ) (slots : List Slot) (i k : ℕ) (long : length slots ≡ 512
   here : (d s : Slot) → k < 512 → getD slots i d ≡ s → by-look (look id s) (Some i) (sought-from (length (drop (k + 1) slots)) (next i) id slots) ≡ sought id slots
   here d s l e =
       ap (λ z. by-look (look id z) (Some i) (sought-from (length (drop (k + 1) slots)) (next i) id slots)) (sym (read-at slots i d s (omega (arith, seeking .within)) e))
-        ∙ sym (ap (λ n. sought-from n i id slots) (fewer slots k (omega arith))) ∙ seeking .left
+      ∙ sym (ap (λ n. sought-from n i id slots) (fewer slots k (omega arith))) ∙ seeking .left
 
   pub seeking-stop : (d : Slot) → k < 512 → getD slots i d ≡ Empty → None ≡ sought id slots
   seeking-stop d l e = here d Empty l e
@@ -46,8 +46,11 @@ module _ (id : ℕ) (slots : List Slot) (i k : ℕ) (long : length slots ≡ 512
   seeking-deleted d l e = record { within = omega arith; left = here d Deleted l e }
 
   pub seeking-other : (d : Slot) (r : PlainRow) → k < 512 → getD slots i d ≡ Full r → (r .id ≡ id → ⊥) → Seeking id slots (next i) (k + 1)
-  seeking-other d r l e other = record { within = omega arith; left =
-      sym (ap (λ b. by-look (cond b hit pass) (Some i) (sought-from (length (drop (k + 1) slots)) (next i) id slots)) (ne-eqb (r .id) id other)) ∙ here d (Full r) l e }
+  seeking-other d r l e other = record {
+    within = omega arith;
+    left =
+        sym (ap (λ b. by-look (cond b hit pass) (Some i) (sought-from (length (drop (k + 1) slots)) (next i) id slots)) (ne-eqb (r .id) id other)) ∙ here d (Full r) l e;
+  }
 
   pub seeking-all : 512 ≤ k → None ≡ sought id slots
   seeking-all l = sym (ap (λ z. sought-from (length z) i id slots) (drop-all k slots (omega arith))) ∙ seeking .left
@@ -58,15 +61,18 @@ pub record Freeing (id : ℕ) (slots : List Slot) (i k : ℕ) : Type 0 where
 
 pub freeing-none : (id : ℕ) (slots : List Slot) (i : ℕ) → i < 512 → i ≡ home id → Freeing id slots i 0
 unfolding free-slot
-freeing-none id slots i within e = record { within = within; left =
-    ap (λ h. free-from (length slots) h (map cell slots)) e ∙ ap (λ n. free-from n (home id) (map cell slots)) (sym (length-map slots cell)) }
+freeing-none id slots i within e = record {
+  within = within;
+  left =
+      ap (λ h. free-from (length slots) h (map cell slots)) e ∙ ap (λ n. free-from n (home id) (map cell slots)) (sym (length-map slots cell));
+}
 
 module _ (id : ℕ) (slots : List Slot) (i k : ℕ) (long : length slots ≡ 512) (freeing : Freeing id slots i k) where
   held : (d : Slot) (c : Option Plain) → k < 512 → cell (getD slots i d) ≡ c → cond (isSome c) (free-from (length (drop (k + 1) slots)) (next i) (map cell slots)) (Some i) ≡ free-slot id (map cell slots)
   held d c l e =
       ap (λ z. cond (isSome z) (free-from (length (drop (k + 1) slots)) (next i) (map cell slots)) (Some i))
-          (sym (read-cell slots i d (getD slots i d) (omega (arith, freeing .within)) refl ∙ e))
-        ∙ sym (ap (λ n. free-from n i (map cell slots)) (fewer slots k (omega arith))) ∙ freeing .left
+      (sym (read-cell slots i d (getD slots i d) (omega (arith, freeing .within)) refl ∙ e))
+      ∙ sym (ap (λ n. free-from n i (map cell slots)) (fewer slots k (omega arith))) ∙ freeing .left
 
   pub freeing-more : (d : Slot) (r : PlainRow) → k < 512 → getD slots i d ≡ Full r → Freeing id slots (next i) (k + 1)
   freeing-more d r l e = record { within = omega arith; left = held d _ l (ap cell e) }

@@ -17,8 +17,8 @@ use crate::store::MOST_REMOVALS;
 use refusals::refusal::Refusal;
 use rows::row::PlainRow;
 use rows::span::Span;
-use stores::search::place_of;
 use stores::search::IdItself;
+use stores::search::place_of;
 use stores::store::Purged;
 use stores::store::Store;
 use tables::table::CAPACITY;
@@ -54,7 +54,12 @@ impl HashedStore {
         ensures rows { λ r. ⌜ held r ≡ [] ⌝ }
         ensures removals { λ r. ⌜ r .removals ≡ 0 ⌝ }
     {
-        HashedStore { table: Table::new(), ids: [0; CAPACITY], slots: [0; CAPACITY], removals: 0 }
+        HashedStore {
+            table: Table::new(),
+            ids: [0; CAPACITY],
+            slots: [0; CAPACITY],
+            removals: 0,
+        }
     }
 
     // Adds a row at the place of its id.
@@ -144,12 +149,24 @@ pub impl Store for HashedStore as HashedRows {
     }
 
     fn row_at(&self, place: usize) -> Option<PlainRow> {
-        if place < self.table.count() { self.table.row_in(self.slots[place] as usize) } else { None }
+        if place < self.table.count() {
+            self.table.row_in(self.slots[place] as usize)
+        } else {
+            None
+        }
     }
 
     fn add(&mut self, id: u32, span: Span, key: u32, value: u32) -> Result<(), Refusal> {
         let place = self.place(id);
-        self.insert(place, PlainRow { id, span, key, value })
+        self.insert(
+            place,
+            PlainRow {
+                id,
+                span,
+                key,
+                value,
+            },
+        )
     }
 
     fn set_end(&mut self, id: u32, end: u32) -> Result<(), Refusal> {
@@ -176,6 +193,8 @@ pub impl Store for HashedStore as HashedRows {
     fn purge(&mut self, below: u32) -> Purged {
         let before = self.table.count();
         *self = self.rebuilt(below);
-        Purged { count: before - self.table.count() }
+        Purged {
+            count: before - self.table.count(),
+        }
     }
 }

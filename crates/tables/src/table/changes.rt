@@ -21,7 +21,10 @@ impl Table {
         ensures empty { λ r. ⌜ cells r ≡ replicate 512 None ⌝ }
         ensures deleted { λ r. ⌜ deleted r ≡ 0 ⌝ }
     {
-        Table { slots: [Slot::Empty; SLOTS], count: 0 }
+        Table {
+            slots: [Slot::Empty; SLOTS],
+            count: 0,
+        }
     }
 
     // The first slot without a row in the search for an id.
@@ -69,7 +72,12 @@ impl Table {
         match self.row_in(slot) {
             None => {}
             Some(row) => {
-                self.slots[slot] = Slot::Full(PlainRow { id: row.id, span, key: row.key, value: row.value });
+                self.slots[slot] = Slot::Full(PlainRow {
+                    id: row.id,
+                    span,
+                    key: row.key,
+                    value: row.value,
+                });
             }
         }
     }

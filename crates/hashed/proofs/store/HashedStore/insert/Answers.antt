@@ -22,8 +22,9 @@ returns-in-Break-slot c =
     let err = err-from-errBy (c .from-residual .result) (c .from-residual .ensures .1) in
     record {
       told = ap (outcome (c .from-residual .result)) (same-rows s (c .put .last .self) (told .0))
-        ∙ ap (λ a. outcome a (held s)) (err .1 ∙ ap Err (err .2)) ∙ told .1;
-      removals = refl }
+          ∙ ap (λ a. outcome a (held s)) (err .1 ∙ ap Err (err .2)) ∙ told .1;
+      removals = refl;
+    }
 
 pub put-requires-2 : need.put-requires-2
 put-requires-2 c κs =
@@ -46,7 +47,7 @@ pub ghost-self-2 : need.ghost-self-2
 ghost-self-2 c =
     let s = c .args .self .now in
     let good = put-good s (c .put .last .self) (plain (c .args .row)) _ (c .in-Continue-slot .ensures tt .told) _ (c .args .at) (c .count-count .ensures) (c .pre)
-                 (c .put-3 .last .items) (c .put-3 .ensures) (c .put-2 .last .items) (c .put-2 .ensures) in
+    (c .put-3 .last .items) (c .put-3 .ensures) (c .put-2 .last .items) (c .put-2 .ensures) in
     (c .put-2 .kept .items ∙ s .wide, (c .put-3 .kept .items ∙ s .long, (good .named, (ordered-from _ _ _ good, (good .matched, (omega (arith, c .put .ensures .deleted, s .worn), (s .recent, tt)))))))
 
 pub returns : need.returns
@@ -54,5 +55,6 @@ returns c =
     let s = c .args .self .now in
     record {
       told = put-done s (c .put .last .self) (plain (c .args .row)) _ (c .in-Continue-slot .ensures tt .told) _ (c .args .at) (c .count-count .ensures) (c .pre)
-        (c .put-3 .last .items) (c .put-3 .ensures);
-      removals = refl }
+          (c .put-3 .last .items) (c .put-3 .ensures);
+      removals = refl;
+    }

@@ -21,7 +21,7 @@ insert-requires c κs =
     let s = c .args .self .now in
     c .count-count .ensures ∙ sym (length-held (c .loop-place .fresh))
     ∙ kept-place (c .args .below) (c .loop-place .place) (held s) (plain (c .in-Some .row)) (omega (arith, length-held s, c .count-place-end .ensures)) (c .in-Some .ensures tt)
-      (good-of s .rising) (omega (arith, c .end .ensures)) (held (c .loop-place .fresh)) (c .loop-place .inv .0)
+    (good-of s .rising) (omega (arith, c .end .ensures)) (held (c .loop-place .fresh)) (c .loop-place .inv .0)
 
 pub loop-place-again : need.loop-place-again
 loop-place-again c =
@@ -29,20 +29,24 @@ loop-place-again c =
     let i = c .loop-place .place in
     let within : i < length (held s) = omega (arith, length-held s, c .count-place-end .ensures) in
     elim (c .match-row-at .came) [
-      in-None w ↦ absurd (none-some _ (w .in-None .ensures tt ∙ nth-getD i (held s) (or-blank None) within))
-    | in-Some·then-end-below w ↦
-        ( ap held (w .fresh-is)
-          ∙ kept-added (c .args .below) i (held s) (plain (w .in-Some .row)) within (w .in-Some .ensures tt) (good-of s .rising) (omega (arith, w .end .ensures, w .if-end-below .taken))
-            (held (c .loop-place .fresh)) (c .loop-place .inv .0) (omega (arith, length-held s, few (s .table))) _ _ (w .insert .ensures .told)
-        , ap (λ (z : HashedStore). z .removals) (w .fresh-is) ∙ w .insert .ensures .removals ∙ c .loop-place .inv .1 )
-    | in-Some·else-end-below w ↦
-        ( ap held (w .fresh-is) ∙ c .loop-place .inv .0
-          ∙ sym (gone-more (c .args .below) i (held s) (plain (w .in-Some .row)) within (w .in-Some .ensures tt) (omega (arith, w .end .ensures, w .if-end-below .left)))
-        , ap (λ (z : HashedStore). z .removals) (w .fresh-is) ∙ c .loop-place .inv .1 ) ]
+      | in-None w ↦ absurd (none-some _ (w .in-None .ensures tt ∙ nth-getD i (held s) (or-blank None) within))
+      | in-Some·then-end-below w ↦ (
+        ap held (w .fresh-is)
+            ∙ kept-added (c .args .below) i (held s) (plain (w .in-Some .row)) within (w .in-Some .ensures tt) (good-of s .rising) (omega (arith, w .end .ensures, w .if-end-below .taken))
+            (held (c .loop-place .fresh)) (c .loop-place .inv .0) (omega (arith, length-held s, few (s .table))) _ _ (w .insert .ensures .told),
+        ap (λ (z : HashedStore). z .removals) (w .fresh-is) ∙ w .insert .ensures .removals ∙ c .loop-place .inv .1,
+      )
+      | in-Some·else-end-below w ↦ (
+        ap held (w .fresh-is) ∙ c .loop-place .inv .0
+            ∙ sym (gone-more (c .args .below) i (held s) (plain (w .in-Some .row)) within (w .in-Some .ensures tt) (omega (arith, w .end .ensures, w .if-end-below .left))),
+        ap (λ (z : HashedStore). z .removals) (w .fresh-is) ∙ c .loop-place .inv .1,
+      )
+    ]
 
 pub returns : need.returns
 returns c =
     let s = c .args .self .now in
     record {
       rows = c .loop-place .inv .0 ∙ ap (kept (c .args .below)) (take-all (c .loop-place .place) (held s) (omega (arith, length-held s, c .count-place-end .ensures)));
-      removals = c .loop-place .inv .1 }
+      removals = c .loop-place .inv .1;
+    }

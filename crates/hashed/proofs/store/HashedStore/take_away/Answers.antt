@@ -20,7 +20,7 @@ pub ghost-self : need.ghost-self
 ghost-self c =
     let s = c .args .self .now in
     let good = cut-good s (c .clear .last .self) (c .args .id) (c .args .slot) (c .pre .here) (c .clear .ensures .after) _ _ (c .count-count .ensures) (c .place-place .ensures)
-                 (c .cut-2 .last .items) (c .cut-2 .ensures) (c .cut .last .items) (c .cut .ensures) in
+    (c .cut-2 .last .items) (c .cut-2 .ensures) (c .cut .last .items) (c .cut .ensures) in
     (c .cut .kept .items ∙ s .wide, (c .cut-2 .kept .items ∙ s .long, (good .named, (ordered-from _ _ _ good, (good .matched, (omega (arith, c .clear .ensures .deleted, s .worn), (omega (arith, c .pre .room), tt)))))))
 
 pub returns : need.returns

@@ -39,9 +39,10 @@ ghost-self c =
     let i = c .args .slot in
     let r = seen-some (c .row-in .result) _ (c .row-in .ensures) (sym (c .if-is-some .ensures tt)) in
     let l = seen-within (t .slots) i (c .row-in .result) (c .row-in .ensures) (sym (c .if-is-some .ensures tt)) in
-    let less = filled-less (cells t) i (r .0) (omega (arith, length-map (t .slots) cell)) (r .1) in
-    ( length-set (t .slots) i Deleted ∙ t .long
-    , (omega (arith, t .within), (omega (arith, t .counted, less, ap filled (map-set cell (t .slots) i Deleted)), (reached-deleted (t .slots) i l (t .reached), tt))) )
+    let less = filled-less (cells t) i (r .0) (omega (arith, length-map (t .slots) cell)) (r .1) in (
+      length-set (t .slots) i Deleted ∙ t .long,
+      (omega (arith, t .within), (omega (arith, t .counted, less, ap filled (map-set cell (t .slots) i Deleted)), (reached-deleted (t .slots) i l (t .reached), tt))),
+    )
 
 pub returns-then-is-some : need.returns-then-is-some
 returns-then-is-some c =
@@ -49,7 +50,8 @@ returns-then-is-some c =
     let i = c .args .slot in
     record {
       after = map-set cell (t .slots) i Deleted;
-      deleted = deleted-more (t .slots) i (seen-within (t .slots) i (c .row-in .result) (c .row-in .ensures) (sym (c .if-is-some .ensures tt))) }
+      deleted = deleted-more (t .slots) i (seen-within (t .slots) i (c .row-in .result) (c .row-in .ensures) (sym (c .if-is-some .ensures tt)));
+    }
 
 pub returns-else-is-some : need.returns-else-is-some
 returns-else-is-some c =
@@ -57,4 +59,5 @@ returns-else-is-some c =
     let none = seen-none (c .row-in .result) _ (c .row-in .ensures) (sym (c .if-is-some .ensures tt)) in
     record {
       after = sym (ap (set cs (c .args .slot)) (sym none) ∙ set-getD cs (c .args .slot) None);
-      deleted = omega arith }
+      deleted = omega arith;
+    }

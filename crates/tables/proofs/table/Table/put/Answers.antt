@@ -37,9 +37,16 @@ ghost-self c =
     let free = free-slot-free (r .id) (cells t) i e in
     let l : i < length (t .slots) = omega (arith, free .0, t .long) in
     let none = no-some (slot-of (r .id) (cells t)) (ap isSome (sym (c .slot-of .ensures)) ∙ sym (c .if-is-some .ensures tt)) in
-    let more = filled-more (cells t) i (plain r) (omega (arith, length-map (t .slots) cell)) (free .1) in
-    (length-set (t .slots) i (Full r) ∙ t .long, (omega (arith, t .within), (omega (arith, t .counted, more, ap filled (map-set cell (t .slots) i (Full r))),
-      (reached-put (t .slots) i r l none (sym (ap isSome (cell-at (t .slots) i)) ∙ free .1) e (t .reached), tt))))
+    let more = filled-more (cells t) i (plain r) (omega (arith, length-map (t .slots) cell)) (free .1) in (
+      length-set (t .slots) i (Full r) ∙ t .long,
+      (
+        omega (arith, t .within),
+        (
+          omega (arith, t .counted, more, ap filled (map-set cell (t .slots) i (Full r))),
+          (reached-put (t .slots) i r l none (sym (ap isSome (cell-at (t .slots) i)) ∙ free .1) e (t .reached), tt),
+        ),
+      ),
+    )
 
 pub returns-in-Some : need.returns-in-Some
 returns-in-Some c =
@@ -49,8 +56,9 @@ returns-in-Some c =
     let free = free-slot-free (r .id) (cells t) i (sym (c .in-Some .ensures tt)) in
     record {
       told =
-        ap (placing (Ok i)) (map-set cell (t .slots) i (Full r))
-        ∙ ap (λ o. puts-at o (plain r) (cells t)) (c .in-Some .ensures tt)
-        ∙ sym (cond-false _ _ _ (lt-leb 256 (filled (cells t)) (omega (arith, t .counted, t .within, c .if-self-eq-CAPACITY .left))))
-        ∙ sym (cond-false _ _ _ (ap isSome (sym (c .slot-of .ensures)) ∙ sym (c .if-is-some .ensures tt)));
-      deleted = deleted-full (t .slots) i r (omega (arith, free .0, t .long)) }
+          ap (placing (Ok i)) (map-set cell (t .slots) i (Full r))
+          ∙ ap (λ o. puts-at o (plain r) (cells t)) (c .in-Some .ensures tt)
+          ∙ sym (cond-false _ _ _ (lt-leb 256 (filled (cells t)) (omega (arith, t .counted, t .within, c .if-self-eq-CAPACITY .left))))
+          ∙ sym (cond-false _ _ _ (ap isSome (sym (c .slot-of .ensures)) ∙ sym (c .if-is-some .ensures tt)));
+      deleted = deleted-full (t .slots) i r (omega (arith, free .0, t .long));
+    }

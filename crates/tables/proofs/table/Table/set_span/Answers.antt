@@ -30,9 +30,16 @@ ghost-self-in-Some c =
     let t = c .args .self .now in
     let i = c .args .slot in
     let was = sym (c .in-Some .ensures tt) in
-    let l = seen-within (t .slots) i (Some (c .in-Some .row)) (c .in-Some .ensures tt) refl in
-    (length-set (t .slots) i _ ∙ t .long, (t .within, (t .counted ∙ sym (ap filled (map-set cell (t .slots) i _) ∙ filled-same (cells t) i _ _ (omega (arith, length-map (t .slots) cell)) was),
-      (reached-over (t .slots) i _ _ l (sym (cell-at (t .slots) i) ∙ was) refl (t .reached), tt))))
+    let l = seen-within (t .slots) i (Some (c .in-Some .row)) (c .in-Some .ensures tt) refl in (
+      length-set (t .slots) i _ ∙ t .long,
+      (
+        t .within,
+        (
+          t .counted ∙ sym (ap filled (map-set cell (t .slots) i _) ∙ filled-same (cells t) i _ _ (omega (arith, length-map (t .slots) cell)) was),
+          (reached-over (t .slots) i _ _ l (sym (cell-at (t .slots) i) ∙ was) refl (t .reached), tt),
+        ),
+      ),
+    )
 
 pub returns-in-None : need.returns-in-None
 returns-in-None c =
@@ -40,8 +47,9 @@ returns-in-None c =
     let i = c .args .slot in
     record {
       after = sym (ap (λ z. set cs i (spanned (c .args .span .start) (c .args .span .end) z)) (sym (c .in-None .ensures tt))
-        ∙ ap (set cs i) (c .in-None .ensures tt) ∙ set-getD cs i None);
-      deleted = omega arith }
+          ∙ ap (set cs i) (c .in-None .ensures tt) ∙ set-getD cs i None);
+      deleted = omega arith;
+    }
 
 pub returns-in-Some : need.returns-in-Some
 returns-in-Some c =
@@ -49,5 +57,6 @@ returns-in-Some c =
     let i = c .args .slot in
     record {
       after = map-set cell (t .slots) i _
-        ∙ ap (λ z. set (cells t) i (spanned (c .args .span .start) (c .args .span .end) z)) (c .in-Some .ensures tt);
-      deleted = deleted-full (t .slots) i _ (seen-within (t .slots) i (Some (c .in-Some .row)) (c .in-Some .ensures tt) refl) }
+          ∙ ap (λ z. set (cells t) i (spanned (c .args .span .start) (c .args .span .end) z)) (c .in-Some .ensures tt);
+      deleted = deleted-full (t .slots) i _ (seen-within (t .slots) i (Some (c .in-Some .row)) (c .in-Some .ensures tt) refl);
+    }

@@ -12,8 +12,9 @@ pub loop-step-again : need.loop-step-again
 loop-step-again c =
     let t = c .args .self .now in
     elim (c .match-here .came) [
-      in-Deleted w ↦ seeking-deleted _ _ _ _ (t .long) (c .loop-step .inv) _ (c .loop-step-test .taken) (w .in-Deleted .is)
-    | in-Full·else-row-id w ↦ seeking-other _ _ _ _ (t .long) (c .loop-step .inv) _ _ (c .loop-step-test .taken) (w .in-Full .is) (w .if-row-id .left) ]
+      | in-Deleted w ↦ seeking-deleted _ _ _ _ (t .long) (c .loop-step .inv) _ (c .loop-step-test .taken) (w .in-Deleted .is)
+      | in-Full·else-row-id w ↦ seeking-other _ _ _ _ (t .long) (c .loop-step .inv) _ _ (c .loop-step-test .taken) (w .in-Full .is) (w .if-row-id .left)
+    ]
 
 pub returns-in-Empty : need.returns-in-Empty
 returns-in-Empty c =

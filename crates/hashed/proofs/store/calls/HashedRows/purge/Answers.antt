@@ -16,4 +16,5 @@ returns c =
     let s = c .args .self .now in
     record {
       count = omega (arith, gone-kept (c .args .below) (held s), ap length (c .rebuilt .ensures .rows), length-held s, length-held (c .rebuilt .result), c .count-before .ensures, c .count .ensures);
-      after = c .rebuilt .ensures .rows }
+      after = c .rebuilt .ensures .rows;
+    }

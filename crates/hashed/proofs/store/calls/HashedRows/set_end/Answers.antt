@@ -30,7 +30,7 @@ pub ghost-self : need.ghost-self
 ghost-self c =
     let s = c .args .self .now in
     let good = set-good s (c .args .id) _ (sym (c .in-Some .ensures tt)) _ (c .in-Some-row-in .ensures tt) _ (c .args .end) (c .start .ensures)
-                 (c .in-Continue-span .span) (c .in-Continue-span .ensures tt) (c .set-span .last .self) (c .set-span .ensures .after) in
+    (c .in-Continue-span .span) (c .in-Continue-span .ensures tt) (c .set-span .last .self) (c .set-span .ensures .after) in
     (s .wide, (s .long, (good .named, (ordered-from _ _ _ good, (good .matched, (omega (arith, c .set-span .ensures .deleted, s .worn), (s .recent, tt)))))))
 
 pub returns : need.returns
