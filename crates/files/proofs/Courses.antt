@@ -12,9 +12,11 @@ use Rattle.refusals.specs.declared.ending.Ending.the-variants.{End, Failed}
 use Rattle.refusals.specs.declared.refusal.Refusal.{Refusal}
 use Rattle.refusals.specs.declared.refusal.Refusal.the-variants.{TooLong}
 use Rattle.refusals.specs.Faults.{event-fault}
-use Rattle.rows.specs.Events.{PlainEvent}
+use Rattle.rows.specs.Events.{PlainEvent, timely}
 use Rattle.rows.specs.Kinds.{Kind}
-use Rattle.files.specs.Reading.{Reads, One, nothing, event, fault, one, ends, gives, proceed, course-up-to, course, file-course, stream-of, file-stream, Told}
+use Rattle.files.specs.Judging.{payload-fits, fields-of}
+use Rattle.files.specs.Reading.{Reads, One, nothing, event, fault, one, ends, gives, proceed, course-up-to, course, file-course, stream-of, file-stream, Told, Sound}
+use Rattle.files.proofs.Ones.{one-sound}
 
 module _ (one : List ℕ → One) (none : one [] ≡ nothing) (shorter : (bs rest : List ℕ) (e : PlainEvent) → one bs ≡ event e rest → length rest < length bs) where
   -- events for which there are no bytes do not matter
@@ -56,11 +58,28 @@ up-to-told one (suc f) n bs = go (one bs) (up-to-told one f (n + 1))
     go (event e rest) ih = (refl, ih rest)
     go (fault r) ih = (r, refl)
 
+up-to-sound : (read : Reads) (k : Kind) (f n : ℕ) (bs : List ℕ) → Sound k (stream-of (course-up-to (one read k) f n bs))
+up-to-sound read k zero n bs = tt
+up-to-sound read k (suc f) n bs = go (one read k bs) (up-to-sound read k f (n + 1)) (λ e rest h. one-sound read k bs rest e h)
+  where
+    go : (o : One) → ((rest : List ℕ) → Sound k (stream-of (course-up-to (one read k) f (n + 1) rest))) →
+      ((e : PlainEvent) (rest : List ℕ) → o ≡ event e rest → (timely e ≡ true) × (payload-fits k (fields-of e) ≡ true)) →
+      Sound k (stream-of (proceed n o (course-up-to (one read k) f (n + 1))))
+    go nothing ih s = tt
+    go (event e rest) ih s = let p = s e rest refl in (p .0, p .1, ih rest)
+    go (fault r) ih s = tt
+
 pub file-told : (read : Reads) (k : Kind) (bs : List ℕ) → Told 1 (file-stream read k bs)
 file-told read k bs =
     cond-both (ltb 65536 (length bs)) (ends (Failed (event-fault TooLong 0 1))) (course (one read k) 1 bs) (λ c. Told 1 (stream-of c))
     (λ e. (TooLong, refl))
     (λ e. up-to-told (one read k) (length bs) 1 bs)
+
+pub file-sound : (read : Reads) (k : Kind) (bs : List ℕ) → Sound k (file-stream read k bs)
+file-sound read k bs =
+    cond-both (ltb 65536 (length bs)) (ends (Failed (event-fault TooLong 0 1))) (course (one read k) 1 bs) (λ c. Sound k (stream-of c))
+    (λ e. tt)
+    (λ e. up-to-sound read k (length bs) 1 bs)
 
 pub file-short : (read : Reads) (k : Kind) (bs : List ℕ) → length bs ≤ 65536 → file-course read k bs ≡ course (one read k) 1 bs
 file-short read k bs h = cond-false (ltb 65536 (length bs)) _ _ (le-ltb 65536 (length bs) h)

@@ -1,6 +1,7 @@
 -- An event at the front of some bytes: its fields, and that they take at least one byte. Assumes nothing.
 use mathlib.Core.Path.{_≡_, refl, sym, ap, _∙_}
 use mathlib.Core.Logic.{_⊎_, inl, inr}
+use mathlib.Core.Bool.{true}
 use mathlib.Core.List.{List, [], _∷_, _++_}
 use Prim.Native.Nat.{ℕ, _+_, _-_, _<_, _≤_}
 use native.Mathlib.Omega.{arith}
@@ -9,12 +10,13 @@ use Rattle.std.proofs.shelf.Lists.{length-append, length-drop, drop-at, drop-dr
 use Rattle.std.specs.declared.result.Result.{Result}
 use Rattle.std.specs.declared.result.Result.the-variants.{Ok, Err}
 use Rattle.refusals.specs.declared.refusal.Refusal.{Refusal}
-use Rattle.rows.specs.Events.{PlainEvent}
+use Rattle.rows.specs.Events.{PlainEvent, timely}
 use Rattle.rows.specs.Kinds.{Kind}
 use Rattle.files.specs.declared.fields.Fields.{Fields}
-use Rattle.files.specs.Judging.{judged}
+use Rattle.files.specs.Judging.{payload-fits, judged, fields-of}
 use Rattle.files.specs.Orders.{Part}
 use Rattle.files.specs.Reading.{Reads, Ends, One, nothing, event, fault, before, one-of, one}
+use Rattle.files.proofs.Exact.{judged-fields}
 
 before-event : (r : Result PlainEvent Refusal) (after rest : List ℕ) (e : PlainEvent) → before after r ≡ event e rest → (r ≡ Ok e) × (after ≡ rest)
 before-event (Ok x) after rest e h = (cc, cc)
@@ -33,6 +35,12 @@ of-event k (Err why) e rest h = absurd (let z : _≡_ {A = ℕ} 0 1 = cc in omeg
 pub one-fields : (read : Reads) (k : Kind) (bs rest : List ℕ) (e : PlainEvent) → one read k bs ≡ event e rest → Fielded k (read bs) e rest
 one-fields read k [] rest e h = absurd (let z : _≡_ {A = ℕ} 0 1 = cc in omega arith)
 one-fields read k (b ∷ bs) rest e h = of-event k (read (b ∷ bs)) e rest h
+
+pub one-sound : (read : Reads) (k : Kind) (bs rest : List ℕ) (e : PlainEvent) → one read k bs ≡ event e rest → (timely e ≡ true) × (payload-fits k (fields-of e) ≡ true)
+one-sound read k bs rest e h =
+    let f = one-fields read k bs rest e h in
+    let j = judged-fields k (f .0) e (f .2) in
+    (j .1, sym (ap (payload-fits k) (j .0)) ∙ j .2)
 
 pub one-some : (read : Reads) (k : Kind) (bs : List ℕ) → 0 < length bs → one read k bs ≡ one-of k (read bs)
 one-some read k [] h = absurd (omega arith)

@@ -11,9 +11,10 @@
 --                             of its event
 --     stream-of c             the course c as a stream, at depth 0
 --     file-stream read k bs   the events of the file bs, numbered from 1; TooLong at event 1 where it has more than 65,536 bytes
+--     Sound k src             the times of each event of src are lawful, and its payload is in the range of the kind k
 --     Told n src              the events of src are numbered n, n + 1, .., and a fault is told at the number after the last
 use mathlib.Core.Path.{_≡_}
-use mathlib.Core.Bool.{cond}
+use mathlib.Core.Bool.{true, cond}
 use mathlib.Core.List.{List, [], _∷_, _++_}
 use Prim.Native.Nat.{ℕ, zero, suc, _+_, _<_}
 use lib.Dec.{ltb}
@@ -27,12 +28,12 @@ use Rattle.refusals.specs.declared.refusal.Refusal.{Refusal}
 use Rattle.refusals.specs.declared.refusal.Refusal.the-variants.{TooLong}
 use Rattle.refusals.specs.Faults.{event-fault}
 use Rattle.rows.specs.declared.event.Event.{Event}
-use Rattle.rows.specs.Events.{PlainEvent, plain-event}
+use Rattle.rows.specs.Events.{PlainEvent, plain-event, timely}
 use Rattle.rows.specs.Kinds.{Kind, Pair}
 use Rattle.receipts.specs.Histories.{Entry}
 use Rattle.rewriting.specs.Streams.{Stream}
 use Rattle.files.specs.declared.fields.Fields.{Fields}
-use Rattle.files.specs.Judging.{judged}
+use Rattle.files.specs.Judging.{payload-fits, judged, fields-of}
 use Rattle.files.specs.Orders.{Part}
 
 abbrev pub Reads : Type 0
@@ -104,3 +105,10 @@ Told-from n (x ∷ xs) w = (x .0 ≡ n) × Told-from (n + 1) xs w
 
 abbrev pub Told : ℕ → Stream → Type 0
 Told n src = Told-from n (src .entries) (src .ending)
+
+abbrev pub AllSound : Kind → List Entry → Type 0
+AllSound k [] = Unit {0}
+AllSound k (x ∷ xs) = (timely (x .1) ≡ true) × (payload-fits k (fields-of (x .1)) ≡ true) × AllSound k xs
+
+abbrev pub Sound : Kind → Stream → Type 0
+Sound k src = AllSound k (src .entries)

@@ -5,7 +5,7 @@ ghost use Prim.Native.Nat.{_<_, _≤_};
 ghost use lib.ListN.{length, drop};
 ghost use denote.Ref.{now as lent};
 ghost use Rattle.std.specs.Options.{Cases as BySome};
-ghost use Rattle.files.specs.Reading.{one-of, one-as, file-stream, Told};
+ghost use Rattle.files.specs.Reading.{one-of, one-as, file-stream, Told, Sound};
 ghost use Rattle.files.specs.Readers.{reader-stream};
 use crate::form::Form;
 use crate::judging::event_of;
@@ -31,11 +31,13 @@ fn read_event<F: Form, P: Payload>(bytes: &[u8]) -> Result<(Event<P>, &[u8]), Re
 }
 
 impl<'a, F: Form, P: Payload> Reader<'a, F, P> {
-    // All events of a file, numbered from 1. It is read to its end, or to the first fault, under the number of its event.
+    // All events of a file, numbered from 1, each lawful. The file is read to its end, or to the first fault, which is told under
+    // the number of its event.
     pub fn new(bytes: &'a [u8]) -> Reader<'a, F, P>
         ensures value { λ r. ⌜ reader-stream (F·Form .read) (P·Payload .kind) (r .state) (r .number) (drop (r .place) (lent (r .bytes)))
             ≡ file-stream (F·Form .read) (P·Payload .kind) (now (bytes .entry)) ⌝ }
         ensures told { λ _. ⌜ Told 1 (file-stream (F·Form .read) (P·Payload .kind) (now (bytes .entry))) ⌝ }
+        ensures sound { λ _. ⌜ Sound (P·Payload .kind) (file-stream (F·Form .read) (P·Payload .kind) (now (bytes .entry))) ⌝ }
     {
         if bytes.len() > LONGEST {
             let fault = Fault::at_event(Refusal::TooLong, 0, 1);
