@@ -2,7 +2,7 @@
 use Prim.Native.Nat.{ℕ}
 use mathlib.Core.Path.{_≡_, refl, sym, ap, _∙_}
 use mathlib.Core.Bool.{Bool, true, false, cond}
-use mathlib.Core.List.{List, _++_}
+use mathlib.Core.List.{List}
 use lib.Dec.{leb}
 use lib.ListN.{length, take, drop}
 use Rattle.std.proofs.shelf.Lists.{take-at, drop-at}
@@ -57,6 +57,9 @@ module _ (s : Setup) (q : QueryState) (places after : List Line) (t : Tally)
     ≡ called s q (closing (length places))
   closing-done due left right m n l r gone-left gone-right =
       (λ i. answers
-        (closed (record { start = q .closed; end = window-end s q; count = told .1 i .count; lines = told .1 i .lines; «purged_left» = gone-left i; «purged_right» = gone-right i }) (first i))
+        (closed (record {
+            start = q .closed; end = window-end s q; count = told .1 i .count; lines = told .1 i .lines;
+            «purged_left» = gone-left i; «purged_right» = gone-right i
+          }) (first i))
         (record { closed = window-end s q; halves = both (l i) (r i) }))
       ∙ sym (cond-true _ _ _ due ∙ cond-true _ _ _ (told .0))

@@ -15,7 +15,8 @@ use Rattle.receipts.specs.Stores.{Outcome, refuse}
 use Rattle.receipts.specs.Queries.{Half, ranged, stored, taken}
 
 -- the payload of an event is in its kind's range
-pub event-ranged : {P : Type 0} (k : Kind) (pair : P → Pair) → ((x : P) → in-range k (pair x .key) (pair x .value) ≡ true) → (e : Event P) → ranged k (plain-event pair e) ≡ true
+pub event-ranged : {P : Type 0} (k : Kind) (pair : P → Pair) → ((x : P) → in-range k (pair x .key) (pair x .value) ≡ true) →
+  (e : Event P) → ranged k (plain-event pair e) ≡ true
 event-ranged k pair law (Insert r) = law (r .payload)
 event-ranged k pair law (Retraction r e) = law (r .payload)
 event-ranged k pair law (Cti t) = refl

@@ -14,7 +14,9 @@ use Rattle.joining.proofs.Guards.{exactly-guarded}
 use Rattle.query.specs.Queries.{setting}
 
 module _ (k m : Kind) (c d width : ℕ) (cs : List Call) where
-  pub exact-at-kinds : 0 < width → Exactly (both k m) (closed-time-of (setting k m c d width) cs) (histories (record-of (setting k m c d width) cs)) (lines-in (record-of (setting k m c d width) cs))
+  pub exact-at-kinds : 0 < width →
+    Exactly (both k m) (closed-time-of (setting k m c d width) cs)
+      (histories (record-of (setting k m c d width) cs)) (lines-in (record-of (setting k m c d width) cs))
   exact-at-kinds some =
       let s : Setup = setting k m c d width in
       exactly-guarded k m (histories (record-of s cs)) (λ r i. rows-sound s cs Left r i .1) (λ r i. rows-sound s cs Right r i .1)

@@ -1,9 +1,7 @@
 use mathlib.Core.Path.{_≡_, refl, sym, _∙_}
 use Rattle.std.specs.declared.result.Result.the-variants.{Ok}
-use Rattle.rows.specs.Kinds.{Kind}
 use Rattle.receipts.specs.Queries.{Setup, QueryState, window-end, held-rows}
-use Rattle.receipts.specs.Sides.{Both}
-use Rattle.joining.specs.Guards.{both, guarded-kinds}
+use Rattle.joining.specs.Guards.{both}
 use Rattle.joining.specs.Passes.{handed-out, hands-out}
 use Rattle.query.specs.Queries.{setup, state}
 use Rattle.query.specs.Halves.{half}
@@ -14,9 +12,11 @@ pub returns-in-Ok : need.returns-in-Ok
 returns-in-Ok g c =
     let s : Setup = setup (g .L·Payload .kind) (g .R·Payload .kind) (g .S·Store .capacity) (g .T·Store .capacity) (c .args .self .now) in
     let q : QueryState = state (g .S·Store .rows) (g .T·Store .rows) (c .args .self .now) in
-    let handed : handed-out (Ok (c .in-Ok .tally)) (c .hand-out .last .lines) ≡ hands-out (s .kinds) (q .closed) (window-end s q) (held-rows q) (c .args .lines .now) =
+    let handed : handed-out (Ok (c .in-Ok .tally)) (c .hand-out .last .lines)
+        ≡ hands-out (s .kinds) (q .closed) (window-end s q) (held-rows q) (c .args .lines .now) =
         c .in-Ok .ensures tt
-        ∙ (λ i. hands-out (s .kinds) (q .closed) (window-end s q) (both (g .S·Store .rows (c .store .ensures i)) (g .T·Store .rows (c .store-2 .ensures i))) (c .args .lines .now)) in
+        ∙ (λ i. hands-out (s .kinds) (q .closed) (window-end s q)
+            (both (g .S·Store .rows (c .store .ensures i)) (g .T·Store .rows (c .store-2 .ensures i))) (c .args .lines .now)) in
     record {
       call = closing-done s q (c .args .lines .now) (c .hand-out .last .lines) (c .in-Ok .tally) handed
         (sym (c .may-close .ensures) ∙ c .if-not-may-close .left)
