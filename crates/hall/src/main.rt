@@ -83,18 +83,25 @@ fn serve(width: u32, left: &[u8], right: &[u8], lines: &mut [Line], windows: &mu
     Ok(run::<Tally, Reading, SortedStore, HashedStore, _, _>(width, &mut left, &mut right, lines, windows))
 }
 
+fn print_lines(rt: &LibcRuntime, lines: &[Line]) -> Result<(), AnyError> {
+    for line in lines {
+        let printed = PrintedLine(*line);
+        println!(rt, "{printed}")?;
+    }
+    Ok(())
+}
+
 // Each window's lines, and then its record.
 fn print_windows(rt: &LibcRuntime, lines: &[Line], windows: &[Window]) -> Result<(), AnyError> {
-    let mut rest = lines.iter();
+    let mut from = 0usize;
     for window in windows {
-        for _ in 0..window.lines {
-            if let Some(line) = rest.next() {
-                let line = PrintedLine(*line);
-                println!(rt, "{line}")?;
-            }
+        let end = from.saturating_add(window.lines);
+        if from <= end && end <= lines.len() {
+            print_lines(rt, &lines[from..end])?;
+            from = end;
         }
-        let record = PrintedWindow(*window);
-        println!(rt, "{record}")?;
+        let printed = PrintedWindow(*window);
+        println!(rt, "{printed}")?;
     }
     Ok(())
 }
