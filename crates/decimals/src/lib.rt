@@ -1,4 +1,6 @@
 // The text form's number: decimal digits that come to at most 4,294,967,295, with no zero before another digit.
+#![tactic(auto)]
+
 ghost use Rattle.std.specs.Prelude.{◌≡◌};
 ghost use Rattle.decimals.specs.Decimals.{digit, digit_first, leading_zero, with_digit, taken, decimal_fault, DecimalExact};
 ghost use Rattle.decimals.specs.Examples.{DecimalExamples};

@@ -1,4 +1,6 @@
 // Tests of the file forms.
+#![tactic(auto)]
+
 #[cfg(test)]
 mod outcomes;
 #[cfg(test)]

@@ -1,4 +1,6 @@
 // Event files: what the text form and the binary form share.
+#![tactic(auto)]
+
 pub mod fields;
 pub mod form;
 pub mod judging;

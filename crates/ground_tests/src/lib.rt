@@ -1,4 +1,6 @@
 // Tables of examples, valid and invalid, against values that are worked out by hand or by another formula.
+#![tactic(auto)]
+
 #[cfg(test)]
 mod decimal_numbers;
 #[cfg(test)]

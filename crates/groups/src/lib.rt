@@ -1,5 +1,7 @@
 // The binary form's number: groups of seven bits, the lowest first, the top bit set on all groups but the last.
 // A number is below 2 ^ 32, so it has at most five groups; zero is no last group after others.
+#![tactic(auto)]
+
 ghost use Rattle.std.specs.Prelude.{◌≡◌, ◌+◌, ◌*◌, ◌^◌, ◌<◌, ◌≤◌, length, IfOk, nat_le};
 ghost use Rattle.groups.specs.Groups.{read_up_to, groups_read, fault_of, found, told, groups_of, GroupsExact};
 ghost use Rattle.groups.specs.Puts.{put, ReadsBack};

@@ -1,4 +1,6 @@
 // Joins the tallies of left.txt with the readings of right.bin, and prints receipt lines and window records.
+#![tactic(auto)]
+
 use anyhow::anyhow;
 use binary::form::Binary;
 use decimals::{decimal, decimal_fault};

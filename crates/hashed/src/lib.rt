@@ -1,2 +1,4 @@
 // A store that finds its rows by a hash of their id.
+#![tactic(auto)]
+
 pub mod store;

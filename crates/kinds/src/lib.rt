@@ -1,4 +1,6 @@
 // The two kinds of payload: tallies of pieces, and readings of the shelf.
+#![tactic(auto)]
+
 ghost use Rattle.kinds.specs.Examples.{Examples};
 
 pub mod reading;

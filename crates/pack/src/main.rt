@@ -1,4 +1,6 @@
 // Packs the readings of right.txt into right.bin.
+#![tactic(auto)]
+
 use anyhow::anyhow;
 use files::reader::LONGEST;
 use kinds::reading::Reading;

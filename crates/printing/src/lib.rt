@@ -1,4 +1,6 @@
 // Receipt lines and window records as programs print them.
+#![tactic(auto)]
+
 ghost use Rattle.std.specs.Prelude.{Some};
 ghost use Rattle.printing.specs.Printed.{most_text, two_text, limits_text, line_text, window_text};
 

@@ -1,4 +1,6 @@
 // What a query hands out, and the laws that make it final.
+#![tactic(auto)]
+
 pub mod laws;
 pub mod line;
 pub mod window;

@@ -1,2 +1,4 @@
 // Row rules, layers and piles as definitions, and their laws.
+#![tactic(auto)]
+
 pub mod laws;

@@ -1,4 +1,6 @@
 // Times and spans, payloads, rows and events.
+#![tactic(auto)]
+
 pub mod event;
 pub mod payload;
 pub mod row;

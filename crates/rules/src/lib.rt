@@ -1,4 +1,6 @@
 // Row rules: what rewrites rows on their way up.
+#![tactic(auto)]
+
 pub mod rule;
 pub mod select;
 pub mod set_duration;

@@ -1,4 +1,6 @@
 // Drives each store and a naive list of rows through the same long sequence of calls, and prints how many answers agreed.
+#![tactic(auto)]
+
 use hashed::store::HashedStore;
 use sorted::table::SortedStore;
 use stores::store::Store;

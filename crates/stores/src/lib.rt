@@ -1,3 +1,5 @@
 // Stores: where a query keeps its rows.
+#![tactic(auto)]
+
 pub mod search;
 pub mod store;

@@ -1,4 +1,6 @@
 // Reads shelf numbers from standard input, one to a line, and prints what each weighs.
+#![tactic(auto)]
+
 use anyhow::anyhow;
 use std::io::Read;
 use weighing::input::{LONGEST, weigh_all};

@@ -1,4 +1,6 @@
 // The weights of the shelf: how many grams each count of its sensor stands for.
+#![tactic(auto)]
+
 ghost use Rattle.std.specs.Prelude.{◌≡◌, ◌≤◌, true, length};
 ghost use Rattle.weights.specs.Grams.{rise, grams, grams_told, follows};
 

@@ -1,4 +1,6 @@
 // The worked examples of all definitions in one statement.
+#![tactic(auto)]
+
 ghost use Rattle.worked.specs.Worked.{Worked};
 
 // Each crate proves its own examples; here they stand together.
