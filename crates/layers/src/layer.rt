@@ -24,9 +24,9 @@ impl<S: Source, R: RowRule> Layer<S, R> {
     // A layer by a rule over a source. Over a pile whose foot is legal, a layer that does not fault is legal, and its
     // history has the rows of the rewritten history.
     pub fn new(below: S, rule: R) -> Layer<S, R>
-        ensures value { over result.failed (layer (R.RowRule.rule result.rule Payload-as-Payload.kind) (S.Source.stream result.below))
-            ≡ layer (R.RowRule.rule rule Payload-as-Payload.kind) (S.Source.stream below) }
-        ensures lawful { LayerLawful (R.RowRule.rule rule Payload-as-Payload.kind) (S.Source.rules below) (S.Source.foot below) (S.Source.stream below) }
+        ensures value { over result.failed (layer (R.RowRule.rule result.rule S.Payload.Payload.kind) (S.Source.stream result.below))
+            ≡ layer (R.RowRule.rule rule S.Payload.Payload.kind) (S.Source.stream below) }
+        ensures lawful { LayerLawful (R.RowRule.rule rule S.Payload.Payload.kind) (S.Source.rules below) (S.Source.foot below) (S.Source.stream below) }
     {
         Layer {
             below,

@@ -1,4 +1,4 @@
 use Rattle.groups.proofs.+read_up_to.Given as goal
 
-abbrev pub decreases-read-up-to : goal.decreases-read-up-to
-decreases-read-up-to l = l.left
+abbrev pub decreases-read_up_to : goal.decreases-read_up_to
+decreases-read_up_to l = l.left

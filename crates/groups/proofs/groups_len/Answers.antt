@@ -2,8 +2,8 @@ use Rattle.std.proofs.Common.{length, ap, arith}
 use Rattle.groups.proofs.Writing.{groups_of_last, groups_of_more, groups_few}
 use Rattle.groups.proofs.groups_len.Goals as goal
 
-pub overflow-add-count : goal.overflow-add-count
-overflow-add-count c = let few = groups_few c.args.n in omega arith
+pub overflow_add-count : goal.overflow_add-count
+overflow_add-count c = let few = groups_few c.args.n in omega arith
 
 pub loop-left-preserved : goal.loop-left-preserved
 loop-left-preserved c =

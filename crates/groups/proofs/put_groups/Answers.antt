@@ -7,15 +7,15 @@ use Rattle.groups.proofs.Putting.{put_some, put_none}
 use Rattle.groups.proofs.Exactness.{put_reads_back}
 use Rattle.groups.proofs.put_groups.Goals as goal
 
-pub returns-then-not-has-room : goal.returns-then-not-has-room
-returns-then-not-has-room c =
-    let same = put_none c.args.out.now c.args.at (groups_of c.args.n) c.if-not-has-room.ensures in
+pub returns-then-not-has_room : goal.returns-then-not-has_room
+returns-then-not-has_room c =
+    let same = put_none c.args.out.now c.args.at (groups_of c.args.n) c.if-not-has_room.ensures in
     record { value = same; back = put_reads_back c.args.n c.args.at c.args.out.now _ _ c.ranges.n.fits same }
 
 pub bounds-out-place : goal.bounds-out-place
 bounds-out-place c =
     let some = groups_some c.loop-left.left in
-    let room = leb-true _ _ (sym c.if-not-has-room.ensures) in
+    let room = leb-true _ _ (sym c.if-not-has_room.ensures) in
     omega arith
 
 pub loop-left-preserved : goal.loop-left-preserved
@@ -27,7 +27,7 @@ loop-left-preserved c =
 pub bounds-out-place-2 : goal.bounds-out-place-2
 bounds-out-place-2 c =
     let some = groups_some c.loop-left.left in
-    let room = leb-true _ _ (sym c.if-not-has-room.ensures) in
+    let room = leb-true _ _ (sym c.if-not-has_room.ensures) in
     omega arith
 
 pub returns : goal.returns
@@ -36,5 +36,5 @@ returns c =
     let l = ap length e in
     let place : c.loop-left.place + 1 ≡ c.args.at + length (groups_of c.args.n) = omega arith in
     let after = sym (ap (put_all c.loop-left.out c.loop-left.place) e) ∙ c.loop-left.invariant.0 in
-    let done = put_some c.args.out.now c.args.at (groups_of c.args.n) _ _ c.if-not-has-room.ensures place after in
+    let done = put_some c.args.out.now c.args.at (groups_of c.args.n) _ _ c.if-not-has_room.ensures place after in
     record { value = done; back = put_reads_back c.args.n c.args.at c.args.out.now _ _ c.ranges.n.fits done }

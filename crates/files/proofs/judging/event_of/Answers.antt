@@ -29,8 +29,8 @@ refused_row k f r e why is h =
     (retractable r.start (time_of r.end) (time_of e)) (row_in r) (event_in (Retraction r e)) why h
     ∙ sym (ap (judged k) is)
 
-pub returns-in-err-row : goal.returns-in-err-row
-returns-in-err-row g c =
-    let p = err_from_is_err_and c.from-residual-in-err-row.result c.from-residual-in-err-row.ensures.1 in
+pub returns-in_err-row-in-Retraction : goal.returns-in_err-row-in-Retraction
+returns-in_err-row-in-Retraction g c =
+    let p = err_from_is_err_and c.from_residual-in_err-row-in-Retraction.result c.from_residual-in_err-row-in-Retraction.ensures.1 in
     rw (p.1, p.2)
-    (refused_row g.row.P-Payload.kind c.args.fields c.in-Retraction.row c.in-Retraction.new_end _ c.in-Retraction.is c.in-err-row.ensures)
+    (refused_row g.P.Payload.kind c.args.fields c.in-Retraction.row c.in-Retraction.new_end _ c.in-Retraction.is c.in_err-row-in-Retraction.ensures)

@@ -13,5 +13,5 @@ untimely false why x e = cc
 
 pub returns-in-Err : goal.returns-in-Err
 returns-in-Err g c =
-    let e = plain_event g.row.P-Payload.pair c.args.event in
-    untimely (timely e) c.in-Err.why (remade (g.R.RowRule.rule c.args.rule.now g.row.P-Payload.kind) e) c.in-Err.ensures
+    let e = plain_event g.P.Payload.pair c.args.event in
+    untimely (timely e) c.in-Err.why (remade (g.R.RowRule.rule c.args.rule.now g.P.Payload.kind) e) c.in-Err.ensures

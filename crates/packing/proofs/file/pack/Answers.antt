@@ -8,7 +8,7 @@ returns-in-Ok-write g c =
     let kind = g.P.Payload.kind in
     let text = c.args.text.now in
     let vs = c.as-slice.result.now in
-    let col = from_slice pair vs c.in-Ok.events _ _ _ c.as-slice.ensures.value c.in-Ok.is c.in-ok-events.ensures c.new-reader.ensures.value in
+    let col = from_slice pair vs c.in-Ok.events _ _ _ c.as-slice.ensures.value c.in-Ok.is c.in_ok-events.ensures c.new-reader.ensures.value in
     record {
       value =
           packed_ok pair kind text vs col c.args.side c.args.out.now c.write.new.out c.in-Ok-write.bytes c.len.result
@@ -22,7 +22,7 @@ returns g c =
     let kind = g.P.Payload.kind in
     let text = c.args.text.now in
     let vs = c.as-slice.result.now in
-    let col = from_slice pair vs c.in-Ok.events _ _ _ c.as-slice.ensures.value c.in-Ok.is c.in-ok-events.ensures c.new-reader.ensures.value in
+    let col = from_slice pair vs c.in-Ok.events _ _ _ c.as-slice.ensures.value c.in-Ok.is c.in_ok-events.ensures c.new-reader.ensures.value in
     record {
       value =
           packed_err pair kind text vs col c.args.side c.args.out.now c.write.new.out c.in-Err-write.refusal c.bare.result c.on-side-in-Err-write.result

@@ -40,7 +40,7 @@ loop-query-smaller g c =
     let srcs' : Both Stream = both (g.A.Source.stream c.take-turn-turned.new.left) (g.B.Source.stream c.take-turn-turned.new.right) in
     let m : ℕ = turns_left (entries_of srcs') (sides c.take-turn-turned.result.progress.over) in
     let n : ℕ = turns_left (entries_of srcs) (sides c.loop-query.progress.over) in
-    omega (arith, subst (λ (o : Option Fault). Spends o m n) c.in-default.is c.take-turn-turned.ensures.spent)
+    omega (arith, subst (λ (o : Option Fault). Spends o m n) c.in_default.is c.take-turn-turned.ensures.spent)
 
 pub loop-query-preserved : goal.loop-query-preserved
 loop-query-preserved g c =
@@ -68,7 +68,7 @@ loop-query-preserved g c =
       later_then c.loop-query.progress.written.windows y.written.windows c.args.windows.now ws _ told.more.1 windows i.3 told.windows,
       goes_further s (places c.args.lines.now c.args.windows.now) t i.0 (places ls ws) (λ k. record { lines = lines k; windows = windows k })
           srcs first i.1 x x' c.take-turn-turned.result.fault told.value (sym c.loop-query-test.ensures) n m
-          (subst (λ (o : Option Fault). Spends o m n) c.in-default.is told.spent) c.in-default.is
+          (subst (λ (o : Option Fault). Spends o m n) c.in_default.is told.spent) c.in_default.is
           ∙ i.4,
     )
 

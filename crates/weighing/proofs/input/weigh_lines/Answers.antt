@@ -10,15 +10,15 @@ pub loop-rest-preserved : goal.loop-rest-preserved
 loop-rest-preserved c =
     let shorter = line_shorter c.loop-rest.rest.now c.in-Ok.after.now c.in-Ok.one (sym c.in-Ok.ensures) in (
       one_taken (vec_items c.loop-rest.weighed) (vec_items c.push.new.self) c.loop-rest.line c.loop-rest.rest.now
-          c.in-Ok.after.now c.in-Ok.one _ c.loop-rest.invariant.0 (sym c.in-Ok.ensures) c.in-ok-push.ensures.items,
+          c.in-Ok.after.now c.in-Ok.one _ c.loop-rest.invariant.0 (sym c.in-Ok.ensures) c.in_ok-push-in-Ok.ensures.items,
       omega arith,
     )
 
 pub returns-in-Err : goal.returns-in-Err
 returns-in-Err c =
     let some : 0 < length c.loop-rest.rest.now = search rules in
-    one_refused (vec_items c.loop-rest.weighed) c.loop-rest.line c.loop-rest.rest.now c.in-Err.refusal c.at-event.result _
-    c.loop-rest.invariant.0 some (sym c.in-Err.ensures) c.at-event.ensures
+    one_refused (vec_items c.loop-rest.weighed) c.loop-rest.line c.loop-rest.rest.now c.in-Err.refusal c.at_event.result _
+    c.loop-rest.invariant.0 some (sym c.in-Err.ensures) c.at_event.ensures
 
 pub returns : goal.returns
 returns c =

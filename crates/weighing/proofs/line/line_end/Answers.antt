@@ -7,5 +7,5 @@ pub returns : goal.returns
 returns c =
     let some : 0 < length c.args.rest.now = search rules in
     let feed : get_or c.args.rest.now 0 0 ≡ 10 = search rules in
-    line_ended c.args.number _ c.args.rest.now _ c.in-ok-weighed.weighed (first_rest c.args.rest.now 0 some) feed
-    c.in-ok-weighed.ensures
+    line_ended c.args.number _ c.args.rest.now _ c.in_ok-weighed.weighed (first_rest c.args.rest.now 0 some) feed
+    c.in_ok-weighed.ensures

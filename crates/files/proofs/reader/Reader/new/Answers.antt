@@ -6,6 +6,6 @@ use Rattle.files.proofs.reader.Reader.new.Goals as goal
 pub returns : goal.returns
 returns g c =
     let read = g.F.Form.read in
-    let kind = g.row.P-Payload.kind in
+    let kind = g.P.Payload.kind in
     let bytes = c.args.bytes.now in
     record { value = ap stream_of (sym (file_short read kind bytes (omega arith))); told = file_told read kind bytes; sound = file_sound read kind bytes }

@@ -7,16 +7,16 @@ use Rattle.hashed.specs.State.{ordered_from}
 use Rattle.hashed.proofs.Updates.{refused, same_good, same_rows, put_slot, put_room, put_good, put_done}
 use Rattle.hashed.proofs.store.HashedStore.insert.Goals as goal
 
-pub invariant-of-self : goal.invariant-of-self
-invariant-of-self c =
+pub invariant_of-self : goal.invariant_of-self
+invariant_of-self c =
     let s = c.args.self.now in
-    let good = same_good s c.put.new.self (refused s c.put.new.self (plain c.args.row) _ c.in-err-slot.ensures.told).0 in
+    let good = same_good s c.put.new.self (refused s c.put.new.self (plain c.args.row) _ c.in_err-slot.ensures.told).0 in
     (s.wide, (s.long, (good.named, (ordered_from _ _ _ good, (good.matched, (omega (arith, c.put.ensures.deleted, s.worn), (s.recent, tt)))))))
 
-pub returns-in-err-slot : goal.returns-in-err-slot
-returns-in-err-slot c =
+pub returns-in_err-slot : goal.returns-in_err-slot
+returns-in_err-slot c =
     let s = c.args.self.now in
-    let told = refused s c.put.new.self (plain c.args.row) _ c.in-err-slot.ensures.told in
+    let told = refused s c.put.new.self (plain c.args.row) _ c.in_err-slot.ensures.told in
     let err = err_from_is_err_and c.from-residual.result c.from-residual.ensures.1 in
     record {
       told = ap (outcome c.from-residual.result) (same_rows s c.put.new.self told.0)
@@ -27,24 +27,24 @@ returns-in-err-slot c =
 pub put-requires-2 : goal.put-requires-2
 put-requires-2 c =
     let s = c.args.self.now in
-    let room = put_room s c.put.new.self (plain c.args.row) _ c.in-ok-slot.ensures.told _ c.args.at c.count-count.ensures c.requires in
+    let room = put_room s c.put.new.self (plain c.args.row) _ c.in_ok-slot.ensures.told _ c.args.at c.count-count.ensures c.requires in
     (omega (arith, room.0, s.wide), room.1)
 
-pub overflow-cast-slot : goal.overflow-cast-slot
-overflow-cast-slot c =
+pub overflow_cast-slot : goal.overflow_cast-slot
+overflow_cast-slot c =
     let s = c.args.self.now in
-    omega (arith, put_slot s c.put.new.self (plain c.args.row) _ c.in-ok-slot.ensures.told)
+    omega (arith, put_slot s c.put.new.self (plain c.args.row) _ c.in_ok-slot.ensures.told)
 
 pub put-requires-3 : goal.put-requires-3
 put-requires-3 c =
     let s = c.args.self.now in
-    let room = put_room s c.put.new.self (plain c.args.row) _ c.in-ok-slot.ensures.told _ c.args.at c.count-count.ensures c.requires in
+    let room = put_room s c.put.new.self (plain c.args.row) _ c.in_ok-slot.ensures.told _ c.args.at c.count-count.ensures c.requires in
     (omega (arith, room.0, s.long), room.1)
 
-pub invariant-of-self-2 : goal.invariant-of-self-2
-invariant-of-self-2 c =
+pub invariant_of-self-2 : goal.invariant_of-self-2
+invariant_of-self-2 c =
     let s = c.args.self.now in
-    let good = put_good s c.put.new.self (plain c.args.row) _ c.in-ok-slot.ensures.told _ c.args.at c.count-count.ensures c.requires
+    let good = put_good s c.put.new.self (plain c.args.row) _ c.in_ok-slot.ensures.told _ c.args.at c.count-count.ensures c.requires
     c.put-3.new.items c.put-3.ensures c.put-2.new.items c.put-2.ensures in
     (c.put-2.auto.items ∙ s.wide, (c.put-3.auto.items ∙ s.long, (good.named, (ordered_from _ _ _ good, (good.matched, (omega (arith, c.put.ensures.deleted, s.worn), (s.recent, tt)))))))
 
@@ -52,7 +52,7 @@ pub returns : goal.returns
 returns c =
     let s = c.args.self.now in
     record {
-      told = put_done s c.put.new.self (plain c.args.row) _ c.in-ok-slot.ensures.told _ c.args.at c.count-count.ensures c.requires
+      told = put_done s c.put.new.self (plain c.args.row) _ c.in_ok-slot.ensures.told _ c.args.at c.count-count.ensures c.requires
           c.put-3.new.items c.put-3.ensures;
       removals = refl;
     }

@@ -15,8 +15,8 @@ cut-requires-2 c =
     let room = cut_room s c.clear.new.self c.args.id c.args.slot c.requires.here c.clear.ensures.after _ _ c.count-count.ensures c.place-place.ensures in
     (omega (arith, room.0, s.long), room.1)
 
-pub invariant-of-self : goal.invariant-of-self
-invariant-of-self c =
+pub invariant_of-self : goal.invariant_of-self
+invariant_of-self c =
     let s = c.args.self.now in
     let good = cut_good s c.clear.new.self c.args.id c.args.slot c.requires.here c.clear.ensures.after _ _ c.count-count.ensures c.place-place.ensures
     c.cut-2.new.items c.cut-2.ensures c.cut.new.items c.cut.ensures in

@@ -7,6 +7,6 @@ returns g c =
     let below = c.args.below in
     record {
       value = refl;
-      lawful = layer_lawful (g.R.RowRule.rule c.args.rule g.row.Payload-Payload.kind) (g.S.Source.rules below) (g.S.Source.foot below)
-          (g.S.Source.stream below) (g.S.Source.piled below) (g.S.Source.keep below) (g.R.RowRule.keeps c.args.rule g.row.Payload-Payload.kind);
+      lawful = layer_lawful (g.R.RowRule.rule c.args.rule g.S.Payload.Payload.kind) (g.S.Source.rules below) (g.S.Source.foot below)
+          (g.S.Source.stream below) (g.S.Source.piled below) (g.S.Source.keep below) (g.R.RowRule.keeps c.args.rule g.S.Payload.Payload.kind);
     }

@@ -23,4 +23,4 @@ returns-then-row g c =
 
 pub returns : goal.returns
 returns g c =
-    c.first-from-2.ensures ∙ walked_here c.loop-passed.from _ (g.Self.Store.rows c.args.self.now) c.loop-passed.invariant _ (omega arith)
+    c.first_from-2.ensures ∙ walked_here c.loop-passed.from _ (g.Self.Store.rows c.args.self.now) c.loop-passed.invariant _ (omega arith)

@@ -8,8 +8,8 @@ loop-step-init c = freeing_none c.args.id c.args.self.now.slots _ c.home-of-slot
 pub loop-step-preserved : goal.loop-step-preserved
 loop-step-preserved c = freeing_more _ _ _ _ c.args.self.now.long c.loop-step.invariant _ _ c.loop-step-test.true c.in-Full.is
 
-pub returns-in-default : goal.returns-in-default
-returns-in-default c = freeing_here _ _ _ _ c.args.self.now.long c.loop-step.invariant _ c.loop-step-test.true c.in-default.not-Full
+pub returns-in_default : goal.returns-in_default
+returns-in_default c = freeing_here _ _ _ _ c.args.self.now.long c.loop-step.invariant _ c.loop-step-test.true c.in_default.not-Full
 
 pub returns : goal.returns
 returns c = freeing_all _ _ _ _ c.args.self.now.long c.loop-step.invariant (omega arith)

@@ -2,5 +2,5 @@ use Rattle.std.proofs.Common.{refl, lit≤}
 use Rattle.tables.proofs.Writes.{reached_new}
 use Rattle.tables.proofs.table.Table.new.Goals as goal
 
-pub invariant-of-result : goal.invariant-of-result
-invariant-of-result c = (refl, (lit≤ tt, (refl, (reached_new 512, tt))))
+pub invariant_of-result : goal.invariant_of-result
+invariant_of-result c = (refl, (lit≤ tt, (refl, (reached_new 512, tt))))

@@ -12,8 +12,8 @@ use Rattle.tables.proofs.Free.{free_slot_free, filled_more}
 use Rattle.tables.proofs.Writes.{reached_put}
 use Rattle.tables.proofs.table.Table.put.Goals as goal
 
-pub offset-bounds-self-slot : goal.offset-bounds-self-slot
-offset-bounds-self-slot c = omega (arith, (free_slot_free c.args.row.id (cells c.args.self.now) c.in-Some.slot (sym c.in-Some.ensures)).0)
+pub offset_bounds-self-slot : goal.offset_bounds-self-slot
+offset_bounds-self-slot c = omega (arith, (free_slot_free c.args.row.id (cells c.args.self.now) c.in-Some.slot (sym c.in-Some.ensures)).0)
 
 pub listed : goal.listed
 listed c =
@@ -23,15 +23,15 @@ listed c =
 pub bounds-self-slot : goal.bounds-self-slot
 bounds-self-slot c = (free_slot_free c.args.row.id (cells c.args.self.now) c.in-Some.slot (sym c.in-Some.ensures)).0
 
-pub invariant-of-self : goal.invariant-of-self
-invariant-of-self c =
+pub invariant_of-self : goal.invariant_of-self
+invariant_of-self c =
     let t = c.args.self.now in
     let i = c.in-Some.slot in
     let r = c.args.row in
     let e = sym c.in-Some.ensures in
     let free = free_slot_free r.id (cells t) i e in
     let l : i < length t.slots = omega (arith, free.0, t.long) in
-    let none = no_some (slot_of r.id (cells t)) (ap is_some (sym c.slot-of.ensures) ∙ sym c.if-is-some.ensures) in
+    let none = no_some (slot_of r.id (cells t)) (ap is_some (sym c.slot_of.ensures) ∙ sym c.if-is_some.ensures) in
     let more = filled_more (cells t) i (plain r) (omega (arith, length-map t.slots cell)) free.1 in (
       length-set t.slots i (Full r) ∙ t.long,
       (
@@ -54,6 +54,6 @@ returns-in-Some c =
           ap (placing (Ok i)) (map-set cell t.slots i (Full r))
           ∙ ap (λ o. puts_at o (plain r) (cells t)) c.in-Some.ensures
           ∙ sym (cond-false _ _ _ (lt-leb 256 (filled (cells t)) (omega (arith, t.counted, t.within, c.if-self-eq-CAPACITY.false))))
-          ∙ sym (cond-false _ _ _ (ap is_some (sym c.slot-of.ensures) ∙ sym c.if-is-some.ensures));
+          ∙ sym (cond-false _ _ _ (ap is_some (sym c.slot_of.ensures) ∙ sym c.if-is_some.ensures));
       deleted = deleted_full t.slots i r (omega (arith, free.0, t.long));
     }

@@ -15,7 +15,7 @@ returns-in-Full c =
     let t = c.args.self.now in
     sym (read_cell t.slots c.args.slot _ _ (omega (arith, t.long)) c.in-Full.is)
 
-pub returns-in-default : goal.returns-in-default
-returns-in-default c =
+pub returns-in_default : goal.returns-in_default
+returns-in_default c =
     let t = c.args.self.now in
-    sym (read_cell t.slots c.args.slot _ _ (omega (arith, t.long)) refl ∙ no_row _ c.in-default.not-Full)
+    sym (read_cell t.slots c.args.slot _ _ (omega (arith, t.long)) refl ∙ no_row _ c.in_default.not-Full)

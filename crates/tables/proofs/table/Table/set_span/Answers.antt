@@ -9,8 +9,8 @@ use Rattle.tables.proofs.Free.{filled_same}
 use Rattle.tables.proofs.Writes.{reached_over}
 use Rattle.tables.proofs.table.Table.set_span.Goals as goal
 
-pub offset-bounds-self-slot : goal.offset-bounds-self-slot
-offset-bounds-self-slot c =
+pub offset_bounds-self-slot : goal.offset_bounds-self-slot
+offset_bounds-self-slot c =
     let t = c.args.self.now in
     omega (arith, seen_within t.slots c.args.slot (Some c.in-Some.row) c.in-Some.ensures refl, t.long)
 
@@ -22,8 +22,8 @@ bounds-self-slot c =
     let t = c.args.self.now in
     omega (arith, seen_within t.slots c.args.slot (Some c.in-Some.row) c.in-Some.ensures refl, t.long)
 
-pub invariant-of-self-in-Some : goal.invariant-of-self-in-Some
-invariant-of-self-in-Some c =
+pub invariant_of-self-in-Some : goal.invariant_of-self-in-Some
+invariant_of-self-in-Some c =
     let t = c.args.self.now in
     let i = c.args.slot in
     let was = sym c.in-Some.ensures in

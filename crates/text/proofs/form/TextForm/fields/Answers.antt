@@ -9,4 +9,4 @@ returns-in-Some c = line_refused (text_read c.args.bytes.now) c.in-Some.refusal 
 pub returns : goal.returns
 returns c =
     line_done c.args.bytes.now (line_of c.line.result.0) c.line.result.1.now c.fields_of.result
-    c.in-default.ensures c.line.ensures c.fields_of.ensures
+    c.in_default.ensures c.line.ensures c.fields_of.ensures

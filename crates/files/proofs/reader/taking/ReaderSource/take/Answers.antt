@@ -3,22 +3,22 @@ use Rattle.rows.specs.Events.{plain_event}
 use Rattle.files.proofs.Steps.{next_place, next_value, next_after, fault_value, fault_after, end_value, end_after}
 use Rattle.files.proofs.reader.taking.ReaderSource.take.Goals as goal
 
-pub overflow-sub-self : goal.overflow-sub-self
-overflow-sub-self g c =
+pub overflow_sub-self : goal.overflow_sub-self
+overflow_sub-self g c =
     let s = c.args.self.now in
     let left = c.in-Reading-Some.ensures in
-    (next_place g.F.Form.read g.met.F.Form.ends g.row.P-Payload.kind s.bytes.now s.place s.number s.state c.in-Reading-Some.is-0 s.within
+    (next_place g.F.Form.read g.met.F.Form.ends g.P.Payload.kind s.bytes.now s.place s.number s.state c.in-Reading-Some.is-0 s.within
     left.0 c.in-Reading-Some.left.now left.1 _ _ c.in-Ok.ensures).0
 
-pub invariant-of-self : goal.invariant-of-self
-invariant-of-self g c =
+pub invariant_of-self : goal.invariant_of-self
+invariant_of-self g c =
     let s = c.args.self.now in
     let left = c.in-Reading-Some.ensures in
     let p =
-    next_place g.F.Form.read g.met.F.Form.ends g.row.P-Payload.kind s.bytes.now s.place s.number s.state c.in-Reading-Some.is-0 s.within
+    next_place g.F.Form.read g.met.F.Form.ends g.P.Payload.kind s.bytes.now s.place s.number s.state c.in-Reading-Some.is-0 s.within
     left.0 c.in-Reading-Some.left.now left.1 _ _ c.in-Ok.ensures in
     let few = s.few in
-    (s.short, (omega arith, (omega (arith, p.1), tt)))
+    record { short = s.short; within = omega arith; few = omega (arith, p.1) }
 
 pub returns-in-Ok : goal.returns-in-Ok
 returns-in-Ok g c =
@@ -26,10 +26,10 @@ returns-in-Ok g c =
     let left = c.in-Reading-Some.ensures in
     record {
       value =
-          next_value g.F.Form.read g.met.F.Form.ends g.row.P-Payload.kind s.bytes.now s.place s.number s.state c.in-Reading-Some.is-0 s.within
+          next_value g.F.Form.read g.met.F.Form.ends g.P.Payload.kind s.bytes.now s.place s.number s.state c.in-Reading-Some.is-0 s.within
           left.0 c.in-Reading-Some.left.now left.1 _ _ c.in-Ok.ensures;
       after =
-          next_after g.F.Form.read g.met.F.Form.ends g.row.P-Payload.kind s.bytes.now s.place s.number s.state c.in-Reading-Some.is-0 s.within
+          next_after g.F.Form.read g.met.F.Form.ends g.P.Payload.kind s.bytes.now s.place s.number s.state c.in-Reading-Some.is-0 s.within
           left.0 c.in-Reading-Some.left.now left.1 _ _ c.in-Ok.ensures;
     }
 
@@ -39,11 +39,11 @@ returns-in-Err g c =
     let left = c.in-Reading-Some.ensures in
     record {
       value =
-          fault_value g.F.Form.read g.met.F.Form.ends g.row.P-Payload.kind s.bytes.now s.place s.number s.state c.in-Reading-Some.is-0 s.within
-          left.0 c.in-Reading-Some.left.now left.1 _ c.in-Err.ensures _ c.at-event-fault.ensures;
+          fault_value g.F.Form.read g.met.F.Form.ends g.P.Payload.kind s.bytes.now s.place s.number s.state c.in-Reading-Some.is-0 s.within
+          left.0 c.in-Reading-Some.left.now left.1 _ c.in-Err.ensures _ c.at_event-fault.ensures;
       after =
-          fault_after g.F.Form.read g.met.F.Form.ends g.row.P-Payload.kind s.bytes.now s.place s.number s.state c.in-Reading-Some.is-0 s.within
-          left.0 c.in-Reading-Some.left.now left.1 _ c.in-Err.ensures _ c.at-event-fault.ensures;
+          fault_after g.F.Form.read g.met.F.Form.ends g.P.Payload.kind s.bytes.now s.place s.number s.state c.in-Reading-Some.is-0 s.within
+          left.0 c.in-Reading-Some.left.now left.1 _ c.in-Err.ensures _ c.at_event-fault.ensures;
     }
 
 pub returns-in-Reading-None : goal.returns-in-Reading-None
@@ -51,9 +51,9 @@ returns-in-Reading-None g c =
     let s = c.args.self.now in
     record {
       value =
-          end_value g.F.Form.read g.met.F.Form.ends g.row.P-Payload.kind s.bytes.now s.place s.number s.state c.in-Reading-None.is-0 s.within
+          end_value g.F.Form.read g.met.F.Form.ends g.P.Payload.kind s.bytes.now s.place s.number s.state c.in-Reading-None.is-0 s.within
           c.in-Reading-None.ensures;
       after =
-          end_after g.F.Form.read g.met.F.Form.ends g.row.P-Payload.kind s.bytes.now s.place s.number s.state c.in-Reading-None.is-0 s.within
+          end_after g.F.Form.read g.met.F.Form.ends g.P.Payload.kind s.bytes.now s.place s.number s.state c.in-Reading-None.is-0 s.within
           c.in-Reading-None.ensures;
     }

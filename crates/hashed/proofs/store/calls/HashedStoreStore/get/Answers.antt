@@ -5,12 +5,12 @@ use Rattle.hashed.specs.Changes.{found_at, absent_at}
 use Rattle.hashed.specs.State.{good_of}
 use Rattle.hashed.proofs.store.calls.HashedStoreStore.get.Goals as goal
 
-pub returns-in-err-slot : goal.returns-in-err-slot
-returns-in-err-slot c =
+pub returns-in_err-slot : goal.returns-in_err-slot
+returns-in_err-slot c =
     let s = c.args.self.now in
-    ap seen c.from-residual.ensures ∙ sym (absent_at (cells s.table) _ _ (good_of s) c.args.id (sym c.in-err-slot.ensures))
+    ap seen c.from-residual.ensures ∙ sym (absent_at (cells s.table) _ _ (good_of s) c.args.id (sym c.in_err-slot.ensures))
 
 pub returns : goal.returns
 returns c =
     let s = c.args.self.now in
-    c.row-in.ensures ∙ sym (found_at (cells s.table) _ _ (good_of s) c.args.id _ (sym c.in-ok-slot.ensures))
+    c.row-in.ensures ∙ sym (found_at (cells s.table) _ _ (good_of s) c.args.id _ (sym c.in_ok-slot.ensures))

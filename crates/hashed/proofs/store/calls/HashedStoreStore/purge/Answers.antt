@@ -4,8 +4,8 @@ use Rattle.hashed.specs.Model.{held}
 use Rattle.hashed.specs.State.{length_held}
 use Rattle.hashed.proofs.store.calls.HashedStoreStore.purge.Goals as goal
 
-pub overflow-sub-result : goal.overflow-sub-result
-overflow-sub-result c =
+pub overflow_sub-result : goal.overflow_sub-result
+overflow_sub-result c =
     let s = c.args.self.now in
     omega (arith, gone_kept c.args.below (held s), ap length c.rebuilt.ensures.rows, length_held s, length_held c.rebuilt.result, c.count-before.ensures, c.count.ensures)
 

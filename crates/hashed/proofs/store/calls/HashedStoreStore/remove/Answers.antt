@@ -8,10 +8,10 @@ use Rattle.hashed.specs.Changes.{absent_at, held_at}
 use Rattle.hashed.specs.State.{good_of}
 use Rattle.hashed.proofs.store.calls.HashedStoreStore.remove.Goals as goal
 
-pub returns-in-default : goal.returns-in-default
-returns-in-default c =
+pub returns-in_default : goal.returns-in_default
+returns-in_default c =
     let s = c.refresh.new.self in
-    removes_none c.args.id (held s) (holds_found c.args.id (held s) ∙ ap is_some (absent_at (cells s.table) _ _ (good_of s) c.args.id (sym c.in-default.ensures)))
+    removes_none c.args.id (held s) (holds_found c.args.id (held s) ∙ ap is_some (absent_at (cells s.table) _ _ (good_of s) c.args.id (sym c.in_default.ensures)))
     ∙ ap (removes c.args.id) c.refresh.ensures.same
 
 pub returns : goal.returns

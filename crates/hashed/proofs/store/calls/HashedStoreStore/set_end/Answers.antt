@@ -9,30 +9,30 @@ use Rattle.hashed.proofs.Ends.{slot_held, end_refused, set_good, set_done}
 use Rattle.hashed.specs.State.{good_of, ordered_from}
 use Rattle.hashed.proofs.store.calls.HashedStoreStore.set_end.Goals as goal
 
-pub returns-in-default : goal.returns-in-default
-returns-in-default c =
+pub returns-in_default : goal.returns-in_default
+returns-in_default c =
     let s = c.args.self.now in
-    sets_none c.args.id (held s) c.args.end (absent_at (cells s.table) _ _ (good_of s) c.args.id (sym c.in-default.ensures))
+    sets_none c.args.id (held s) c.args.end (absent_at (cells s.table) _ _ (good_of s) c.args.id (sym c.in_default.ensures))
 
-pub returns-in-default-row-in : goal.returns-in-default-row-in
-returns-in-default-row-in c = absurd (slot_held c.args.self.now c.args.id _ (sym c.in-Some.ensures) c.in-default-row-in.ensures)
+pub returns-in_default-row-in : goal.returns-in_default-row-in
+returns-in_default-row-in c = absurd (slot_held c.args.self.now c.args.id _ (sym c.in-Some.ensures) c.in_default-row-in.ensures)
 
-pub returns-in-err-span : goal.returns-in-err-span
-returns-in-err-span c =
+pub returns-in_err-span : goal.returns-in_err-span
+returns-in_err-span c =
     let s = c.args.self.now in
     let err = err_from_is_err_and c.from-residual.result c.from-residual.ensures.1 in
     ap (λ a. outcome a (held s)) (err.1 ∙ ap Err err.2)
-    ∙ end_refused s c.args.id _ (sym c.in-Some.ensures) _ c.in-Some-row-in.ensures _ c.args.end c.start.ensures _ c.in-err-span.ensures
+    ∙ end_refused s c.args.id _ (sym c.in-Some.ensures) _ c.in-Some-row-in.ensures _ c.args.end c.start.ensures _ c.in_err-span.ensures
 
-pub invariant-of-self : goal.invariant-of-self
-invariant-of-self c =
+pub invariant_of-self : goal.invariant_of-self
+invariant_of-self c =
     let s = c.args.self.now in
     let good = set_good s c.args.id _ (sym c.in-Some.ensures) _ c.in-Some-row-in.ensures _ c.args.end c.start.ensures
-    c.in-ok-span.span c.in-ok-span.ensures c.set-span.new.self c.set-span.ensures.after in
+    c.in_ok-span.span c.in_ok-span.ensures c.set-span.new.self c.set-span.ensures.after in
     (s.wide, (s.long, (good.named, (ordered_from _ _ _ good, (good.matched, (omega (arith, c.set-span.ensures.deleted, s.worn), (s.recent, tt)))))))
 
 pub returns : goal.returns
 returns c =
     let s = c.args.self.now in
     set_done s c.args.id _ (sym c.in-Some.ensures) _ c.in-Some-row-in.ensures _ c.args.end c.start.ensures
-    c.in-ok-span.span c.in-ok-span.ensures c.set-span.new.self c.set-span.ensures.after
+    c.in_ok-span.span c.in_ok-span.ensures c.set-span.new.self c.set-span.ensures.after

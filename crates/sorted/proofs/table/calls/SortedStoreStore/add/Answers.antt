@@ -21,8 +21,8 @@ returns-then-self-eq-CAPACITY c =
 pub put-requires : goal.put-requires
 put-requires c = (omega arith, within_held c.args.self.now c.args.id _ c.place-place.ensures)
 
-pub invariant-of-self : goal.invariant-of-self
-invariant-of-self c =
+pub invariant_of-self : goal.invariant_of-self
+invariant_of-self c =
     let s = c.args.self.now in (
       c.put.auto.rows ∙ s.long,
       (omega arith, (adds_ordered s _ _ c.place-place.ensures c.if-has.ensures.value c.put.new.rows c.put.ensures, tt)),

@@ -2,8 +2,8 @@ use Rattle.std.proofs.Common.{◌∙◌, arith}
 use Rattle.sorted.proofs.Changes.{purge_held, purge_ordered, purge_count}
 use Rattle.sorted.proofs.table.calls.SortedStoreStore.purge.Goals as goal
 
-pub invariant-of-self : goal.invariant-of-self
-invariant-of-self c =
+pub invariant_of-self : goal.invariant_of-self
+invariant_of-self c =
     let s = c.args.self.now in (
       c.keep-from-kept.auto.rows ∙ s.long,
       (omega arith, (purge_ordered s c.args.below _ c.keep-from-kept.new.rows c.keep-from-kept.ensures.front, tt)),

@@ -9,8 +9,8 @@ returns-then-not-has c =
     let s = c.args.self.now in
     removes_none c.args.id (held s) (holds_told s c.args.id _ c.place-place.ensures false c.if-not-has.ensures.value)
 
-pub invariant-of-self : goal.invariant-of-self
-invariant-of-self c =
+pub invariant_of-self : goal.invariant_of-self
+invariant_of-self c =
     let s = c.args.self.now in
     let told = c.if-not-has.ensures in (
       c.cut.auto.rows ∙ s.long,

@@ -12,24 +12,24 @@ returns-then-not-has c =
     let s = c.args.self.now in
     sets_none c.args.id (held s) c.args.end (missing_told s c.args.id _ c.place-place.ensures c.if-not-has.ensures.value)
 
-pub returns-in-err-span : goal.returns-in-err-span
-returns-in-err-span c =
+pub returns-in_err-span : goal.returns-in_err-span
+returns-in_err-span c =
     let s = c.args.self.now in
     let told = c.if-not-has.ensures in
     let err = err_from_is_err_and c.from-residual.result c.from-residual.ensures.1 in
     ap (λ a. outcome a (held s)) err.1
-    ∙ sets_refused s c.args.id _ c.place-place.ensures told.value (told.within tt) _ c.args.end _ c.start.ensures _ (ap Err err.2 ∙ c.in-err-span.ensures)
+    ∙ sets_refused s c.args.id _ c.place-place.ensures told.value (told.within tt) _ c.args.end _ c.start.ensures _ (ap Err err.2 ∙ c.in_err-span.ensures)
 
-pub invariant-of-self-2 : goal.invariant-of-self-2
-invariant-of-self-2 c =
+pub invariant_of-self-2 : goal.invariant_of-self-2
+invariant_of-self-2 c =
     let s = c.args.self.now in
     let told = c.if-not-has.ensures in (
       length-set s.rows _ _ ∙ s.long,
-      (omega arith, (sets_ordered s c.args.id _ c.place-place.ensures told.value (told.within tt) _ c.args.end _ c.start.ensures _ c.in-ok-span.span c.in-ok-span.ensures refl, tt)),
+      (omega arith, (sets_ordered s c.args.id _ c.place-place.ensures told.value (told.within tt) _ c.args.end _ c.start.ensures _ c.in_ok-span.span c.in_ok-span.ensures refl, tt)),
     )
 
 pub returns : goal.returns
 returns c =
     let s = c.args.self.now in
     let told = c.if-not-has.ensures in
-    sets_told s c.args.id _ c.place-place.ensures told.value (told.within tt) _ c.args.end _ c.start.ensures _ c.in-ok-span.span c.in-ok-span.ensures refl
+    sets_told s c.args.id _ c.place-place.ensures told.value (told.within tt) _ c.args.end _ c.start.ensures _ c.in_ok-span.span c.in_ok-span.ensures refl
