@@ -6,9 +6,11 @@ use Rattle.refusals.specs.declared.refusal.Refusal.{Refusal}
 use Rattle.rows.specs.Rows.{Plain}
 use Rattle.receipts.specs.Queries.{Half}
 use Rattle.receipts.specs.Stores.{Outcome}
+use Rattle.rows.specs.declared.payload.Payload
+use Rattle.stores.specs.declared.store.Store
 use Rattle.query.specs.declared.input.Input.{Input}
 
-abbrev pub half : {P S : Type 0} → (S → List Plain) → Input P S → Half
+abbrev pub half : {P S : Type 0} {p : Payload.Ghosts P} {s : Store.Ghosts S} → (S → List Plain) → Input P S p s → Half
 half rows i = record { cti = i.cti; held = rows i.store }
 
 abbrev pub half_outcome : Result (Unit {0}) Refusal → Half → Outcome Half

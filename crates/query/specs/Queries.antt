@@ -4,7 +4,7 @@
 --     setup k m c d q             the setup of the query q
 --     state rows others q         the closed time of q, and what its inputs hold, whose stores mean rows and others
 --     Opened                      a query's setup, and the state that it starts in
---     opened of-setup of-state r  the answer r of a call that makes a query
+--     opened of_setup of_state r  the answer r of a call that makes a query
 --     opens s                     a new query, or BadWidth where the width is not from 1 to 604,800
 use Rattle.std.specs.Prelude.{ℕ, cond, ◌&&◌, List, Ok, Err, Result, nat_le}
 use Rattle.refusals.specs.declared.fault.Fault.{Fault}
@@ -14,16 +14,20 @@ use Rattle.rows.specs.Kinds.{Kind}
 use Rattle.rows.specs.Rows.{Plain}
 use Rattle.receipts.specs.Queries.{Setup, QueryState, new_query}
 use Rattle.joining.specs.Guards.{both, guarded_kinds}
+use Rattle.rows.specs.declared.payload.Payload
+use Rattle.stores.specs.declared.store.Store
 use Rattle.query.specs.declared.engine.Query.{Query}
 use Rattle.query.specs.Halves.{half}
 
 abbrev pub setting : Kind → Kind → ℕ → ℕ → ℕ → Setup
 setting k m c d width = record { width = width; capacity = both c d; kinds = guarded_kinds k m }
 
-abbrev pub setup : {L R S T : Type 0} → Kind → Kind → ℕ → ℕ → Query L R S T → Setup
+abbrev pub setup : {L R S T : Type 0} {l : Payload.Ghosts L} {r : Payload.Ghosts R} {s : Store.Ghosts S} {t : Store.Ghosts T} →
+    Kind → Kind → ℕ → ℕ → Query L R S T l r s t → Setup
 setup k m c d q = setting k m c d q.width
 
-abbrev pub state : {L R S T : Type 0} → (S → List Plain) → (T → List Plain) → Query L R S T → QueryState
+abbrev pub state : {L R S T : Type 0} {l : Payload.Ghosts L} {r : Payload.Ghosts R} {s : Store.Ghosts S} {t : Store.Ghosts T} →
+    (S → List Plain) → (T → List Plain) → Query L R S T l r s t → QueryState
 state rows others q = record { closed = q.closed; halves = both (half rows q.left) (half others q.right) }
 
 pub record Opened : Type 0 where
@@ -31,8 +35,8 @@ pub record Opened : Type 0 where
   pub state : QueryState
 
 abbrev pub opened : {Q : Type 0} → (Q → Setup) → (Q → QueryState) → Result Q Fault → Result Opened Fault
-opened of-setup of-state (Ok q) = Ok (record { setup = of-setup q; state = of-state q })
-opened of-setup of-state (Err f) = Err f
+opened of_setup of_state (Ok q) = Ok (record { setup = of_setup q; state = of_state q })
+opened of_setup of_state (Err f) = Err f
 
 abbrev pub opens : Setup → Result Opened Fault
 opens s = cond (nat_le 1 s.width && nat_le s.width 604800) (Ok (record { setup = s; state = new_query })) (Err (bare_fault BadWidth))

@@ -3,8 +3,8 @@ use Rattle.groups.specs.Puts.{put_all}
 use Rattle.binary.proofs.Left.{numbers_len, numbers_none, put_numbers_more}
 use Rattle.binary.proofs.spelling.put_numbers.Goals as goal
 
-pub put-number-place-requires : goal.put-number-place-requires
-put-number-place-requires c =
+pub put_number-place-requires : goal.put_number-place-requires
+put_number-place-requires c =
     let l = numbers_len c.args.numbers.now c.loop-n.n-index (omega arith) in
     omega arith
 

@@ -26,18 +26,18 @@ loop-event-preserved g c =
     let e = c.event-item.result in
     c.loop-event.invariant
     ∙ timely_left pair es i e c.loop-event-test.true c.event-item.is
-    ∙ ap (λ b. b && all_timely pair (drop (i + 1) es)) (lawful (timely (plain_event pair e)) c.in_ok-judge-times.ensures)
+    ∙ ap (λ b. b && all_timely pair (drop (i + 1) es)) (lawful (timely (plain_event pair e)) c.in_ok-judge_times.ensures)
 
-pub returns-in_err-judge-times : goal.returns-in_err-judge-times
-returns-in_err-judge-times g c =
+pub returns-in_err-judge_times : goal.returns-in_err-judge_times
+returns-in_err-judge_times g c =
     let pair = g.P.Payload.pair in
     let es = c.args.events.now in
     let i = c.loop-event.event-index in
     let e = c.event-item.result in
     let left = c.loop-event.invariant ∙ timely_left pair es i e c.loop-event-test.true c.event-item.is in
-    let p = err_from_is_err_and c.from-residual.result c.from-residual.ensures.1 in
+    let p = err_from_is_err_and c.from_residual.result c.from_residual.ensures.1 in
     rw (p.1, p.2)
-    (unlawful (timely (plain_event pair e)) (all_timely pair (drop (i + 1) es)) _ c.in_err-judge-times.ensures
+    (unlawful (timely (plain_event pair e)) (all_timely pair (drop (i + 1) es)) _ c.in_err-judge_times.ensures
     ∙ sym (ap (λ b. cond b (Ok tt) (Err BadTime)) left))
 
 pub returns : goal.returns

@@ -34,13 +34,13 @@ returns g c =
     let pair = g.P.Payload.pair in
     let es = c.args.events.now in
     let out = c.args.out.now in
-    let t = lawful (all_timely pair es) c.in_ok-judge-all.ensures in
+    let t = lawful (all_timely pair es) c.in_ok-judge_all.ensures in
     let room = leb-true _ _ (sym c.if-not-fit.ensures) in
     let m = c.min.ensures in
-    let bytes = front out (file_bytes pair es) c.put-events.result c.put-events.new.out (omega arith) c.put-events.ensures.place c.put-events.ensures.after in
+    let bytes = front out (file_bytes pair es) c.put_events.result c.put_events.new.out (omega arith) c.put_events.ensures.place c.put_events.ensures.after in
     record {
-      value = written_ok pair es out c.put-events.result c.put-events.new.out t (omega arith) c.put-events.ensures.place c.put-events.ensures.after;
+      value = written_ok pair es out c.put_events.result c.put_events.new.out t (omega arith) c.put_events.ensures.place c.put_events.ensures.after;
       exact =
           subst (Spells g.P.Payload.kind (listed_stream pair es 0)) (sym bytes)
-          (file_spelt pair g.P.Payload.kind g.met.P.Payload.ranged es t c.put-events.ensures.small (omega arith));
+          (file_spelt pair g.P.Payload.kind g.met.P.Payload.ranged es t c.put_events.ensures.small (omega arith));
     }

@@ -21,4 +21,4 @@ returns c =
       | then-loop-at-test+else-bytes-at-ne32 w ↦ cut_stop xs i f b w.loop-at-test.true (parts_space _ w.if-bytes-at-ne32.false)
       | else-loop-at-test w ↦ cut_end xs i f b w.loop-at-test.false
     ] in
-    record { front = c.split-at.ensures.front ∙ m.0; back = c.split-at.ensures.back ∙ m.1 }
+    record { front = c.split_at.ensures.front ∙ m.0; back = c.split_at.ensures.back ∙ m.1 }

@@ -11,15 +11,23 @@ pub invariant_of-self : goal.invariant_of-self
 invariant_of-self c =
     let s = c.args.self.now in
     let good = same_good s c.put.new.self (refused s c.put.new.self (plain c.args.row) _ c.in_err-slot.ensures.told).0 in
-    (s.wide, (s.long, (good.named, (ordered_from _ _ _ good, (good.matched, (omega (arith, c.put.ensures.deleted, s.worn), (s.recent, tt)))))))
+    record {
+      wide = s.wide;
+      long = s.long;
+      named = good.named;
+      ordered = ordered_from _ _ _ good;
+      matched = good.matched;
+      worn = omega (arith, c.put.ensures.deleted, s.worn);
+      recent = s.recent;
+    }
 
 pub returns-in_err-slot : goal.returns-in_err-slot
 returns-in_err-slot c =
     let s = c.args.self.now in
     let told = refused s c.put.new.self (plain c.args.row) _ c.in_err-slot.ensures.told in
-    let err = err_from_is_err_and c.from-residual.result c.from-residual.ensures.1 in
+    let err = err_from_is_err_and c.from_residual.result c.from_residual.ensures.1 in
     record {
-      told = ap (outcome c.from-residual.result) (same_rows s c.put.new.self told.0)
+      told = ap (outcome c.from_residual.result) (same_rows s c.put.new.self told.0)
           ∙ ap (λ a. outcome a (held s)) (err.1 ∙ ap Err err.2) ∙ told.1;
       removals = refl;
     }
@@ -46,7 +54,15 @@ invariant_of-self-2 c =
     let s = c.args.self.now in
     let good = put_good s c.put.new.self (plain c.args.row) _ c.in_ok-slot.ensures.told _ c.args.at c.count-count.ensures c.requires
     c.put-3.new.items c.put-3.ensures c.put-2.new.items c.put-2.ensures in
-    (c.put-2.auto.items ∙ s.wide, (c.put-3.auto.items ∙ s.long, (good.named, (ordered_from _ _ _ good, (good.matched, (omega (arith, c.put.ensures.deleted, s.worn), (s.recent, tt)))))))
+    record {
+      wide = c.put-2.auto.items ∙ s.wide;
+      long = c.put-3.auto.items ∙ s.long;
+      named = good.named;
+      ordered = ordered_from _ _ _ good;
+      matched = good.matched;
+      worn = omega (arith, c.put.ensures.deleted, s.worn);
+      recent = s.recent;
+    }
 
 pub returns : goal.returns
 returns c =

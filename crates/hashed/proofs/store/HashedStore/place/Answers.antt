@@ -6,4 +6,4 @@ use Rattle.hashed.proofs.store.HashedStore.place.Goals as goal
 pub returns : goal.returns
 returns c =
     let s = c.args.self.now in
-    place_told c.args.id _ _ (held s) (ap (λ n. take n s.ids) (omega (arith, c.count.ensures)) ∙ s.named) (good_of s).rising c.place-of.ensures.place
+    place_told c.args.id _ _ (held s) (ap (λ n. take n s.ids) (omega (arith, c.count.ensures)) ∙ s.named) (good_of s).rising c.place_of.ensures.place

@@ -24,7 +24,7 @@ loop-place-preserved c =
     let s = c.args.self.now in
     let i = c.loop-place.place in
     let within : i < length (held s) = omega (arith, length_held s, c.count-place-end.ensures) in
-    elim c.match-row-at.branch [
+    elim c.match-row_at.branch [
       | in-None w ↦ absurd (none_some _ (w.in-None.ensures ∙ nth_get_or i (held s) (or_blank None) within))
       | in-Some+then-end-below w ↦ (
         ap held w.fresh-is

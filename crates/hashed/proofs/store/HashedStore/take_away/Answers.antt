@@ -20,7 +20,15 @@ invariant_of-self c =
     let s = c.args.self.now in
     let good = cut_good s c.clear.new.self c.args.id c.args.slot c.requires.here c.clear.ensures.after _ _ c.count-count.ensures c.place-place.ensures
     c.cut-2.new.items c.cut-2.ensures c.cut.new.items c.cut.ensures in
-    (c.cut.auto.items ∙ s.wide, (c.cut-2.auto.items ∙ s.long, (good.named, (ordered_from _ _ _ good, (good.matched, (omega (arith, c.clear.ensures.deleted, s.worn), (omega (arith, c.requires.room), tt)))))))
+    record {
+      wide = c.cut.auto.items ∙ s.wide;
+      long = c.cut-2.auto.items ∙ s.long;
+      named = good.named;
+      ordered = ordered_from _ _ _ good;
+      matched = good.matched;
+      worn = omega (arith, c.clear.ensures.deleted, s.worn);
+      recent = omega (arith, c.requires.room);
+    }
 
 pub returns : goal.returns
 returns c =

@@ -4,5 +4,5 @@ use Rattle.sorted.proofs.table.calls.cut.Goals as goal
 
 pub returns : goal.returns
 returns c =
-    let moved = c.copy-within.ensures.by_index in
-    shifted_down c.args.rows.now c.copy-within.new.self _ _ c.copy-within.ensures.len (omega arith) (omega arith) moved.0 moved.1
+    let moved = c.copy_within.ensures.by_index in
+    shifted_down c.args.rows.now c.copy_within.new.self _ _ c.copy_within.ensures.len (omega arith) (omega arith) moved.0 moved.1

@@ -4,5 +4,5 @@ use Rattle.sorted.proofs.table.calls.put.Goals as goal
 
 pub returns : goal.returns
 returns c =
-    let moved = c.copy-within.ensures.by_index in
-    shifted_up c.args.rows.now c.copy-within.new.self _ _ c.copy-within.ensures.len _ (omega arith) (omega arith) moved.0 moved.1
+    let moved = c.copy_within.ensures.by_index in
+    shifted_up c.args.rows.now c.copy_within.new.self _ _ c.copy_within.ensures.len _ (omega arith) (omega arith) moved.0 moved.1

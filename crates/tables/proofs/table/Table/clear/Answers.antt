@@ -36,10 +36,12 @@ invariant_of-self c =
     let i = c.args.slot in
     let r = seen_some c.row_in.result _ c.row_in.ensures (sym c.if-is_some.ensures) in
     let l = seen_within t.slots i c.row_in.result c.row_in.ensures (sym c.if-is_some.ensures) in
-    let less = filled_less (cells t) i r.0 (omega (arith, length-map t.slots cell)) r.1 in (
-      length-set t.slots i Deleted ∙ t.long,
-      (omega (arith, t.within), (omega (arith, t.counted, less, ap filled (map-set cell t.slots i Deleted)), (reached_deleted t.slots i l t.reached, tt))),
-    )
+    let less = filled_less (cells t) i r.0 (omega (arith, length-map t.slots cell)) r.1 in record {
+      long = length-set t.slots i Deleted ∙ t.long;
+      within = omega (arith, t.within);
+      counted = omega (arith, t.counted, less, ap filled (map-set cell t.slots i Deleted));
+      reached = reached_deleted t.slots i l t.reached;
+    }
 
 pub returns-then-is_some : goal.returns-then-is_some
 returns-then-is_some c =

@@ -3,4 +3,9 @@ use Rattle.tables.proofs.Writes.{reached_new}
 use Rattle.tables.proofs.table.Table.new.Goals as goal
 
 pub invariant_of-result : goal.invariant_of-result
-invariant_of-result c = (refl, (lit≤ tt, (refl, (reached_new 512, tt))))
+invariant_of-result c = record {
+      long = refl;
+      within = lit≤ tt;
+      counted = refl;
+      reached = reached_new 512;
+    }

@@ -32,16 +32,12 @@ invariant_of-self c =
     let free = free_slot_free r.id (cells t) i e in
     let l : i < length t.slots = omega (arith, free.0, t.long) in
     let none = no_some (slot_of r.id (cells t)) (ap is_some (sym c.slot_of.ensures) ∙ sym c.if-is_some.ensures) in
-    let more = filled_more (cells t) i (plain r) (omega (arith, length-map t.slots cell)) free.1 in (
-      length-set t.slots i (Full r) ∙ t.long,
-      (
-        omega (arith, t.within),
-        (
-          omega (arith, t.counted, more, ap filled (map-set cell t.slots i (Full r))),
-          (reached_put t.slots i r l none (sym (ap is_some (cell_at t.slots i)) ∙ free.1) e t.reached, tt),
-        ),
-      ),
-    )
+    let more = filled_more (cells t) i (plain r) (omega (arith, length-map t.slots cell)) free.1 in record {
+      long = length-set t.slots i (Full r) ∙ t.long;
+      within = omega (arith, t.within);
+      counted = omega (arith, t.counted, more, ap filled (map-set cell t.slots i (Full r)));
+      reached = reached_put t.slots i r l none (sym (ap is_some (cell_at t.slots i)) ∙ free.1) e t.reached;
+    }
 
 pub returns-in-Some : goal.returns-in-Some
 returns-in-Some c =

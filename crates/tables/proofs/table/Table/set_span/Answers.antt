@@ -27,16 +27,12 @@ invariant_of-self-in-Some c =
     let t = c.args.self.now in
     let i = c.args.slot in
     let was = sym c.in-Some.ensures in
-    let l = seen_within t.slots i (Some c.in-Some.row) c.in-Some.ensures refl in (
-      length-set t.slots i _ ∙ t.long,
-      (
-        t.within,
-        (
-          t.counted ∙ sym (ap filled (map-set cell t.slots i _) ∙ filled_same (cells t) i _ _ (omega (arith, length-map t.slots cell)) was),
-          (reached_over t.slots i _ _ l (sym (cell_at t.slots i) ∙ was) refl t.reached, tt),
-        ),
-      ),
-    )
+    let l = seen_within t.slots i (Some c.in-Some.row) c.in-Some.ensures refl in record {
+      long = length-set t.slots i _ ∙ t.long;
+      within = t.within;
+      counted = t.counted ∙ sym (ap filled (map-set cell t.slots i _) ∙ filled_same (cells t) i _ _ (omega (arith, length-map t.slots cell)) was);
+      reached = reached_over t.slots i _ _ l (sym (cell_at t.slots i) ∙ was) refl t.reached;
+    }
 
 pub returns-in-None : goal.returns-in-None
 returns-in-None c =

@@ -5,7 +5,7 @@ use Rattle.tables.proofs.table.Table.slot_of.Goals as goal
 use Rattle.tables.proofs.table.Table.slot_of.Goals.{in-Deleted, in-Full+else-row-id}
 
 pub loop-step-init : goal.loop-step-init
-loop-step-init c = seeking_none c.args.id c.args.self.now.slots _ c.home-of-slot.ensures.within c.home-of-slot.ensures.value
+loop-step-init c = seeking_none c.args.id c.args.self.now.slots _ c.home_of-slot.ensures.within c.home_of-slot.ensures.value
 
 pub loop-step-preserved : goal.loop-step-preserved
 loop-step-preserved c =

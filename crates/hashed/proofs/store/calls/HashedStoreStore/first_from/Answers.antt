@@ -7,4 +7,4 @@ use Rattle.hashed.proofs.store.calls.HashedStoreStore.first_from.Goals as goal
 pub returns : goal.returns
 returns c =
     let m = held c.args.self.now in
-    c.row-at.ensures ∙ ap (λ n. nth_row n m) c.place.ensures ∙ sym (first_place c.args.id m)
+    c.row_at.ensures ∙ ap (λ n. nth_row n m) c.place.ensures ∙ sym (first_place c.args.id m)

@@ -8,9 +8,9 @@ use Rattle.hashed.proofs.store.calls.HashedStoreStore.get.Goals as goal
 pub returns-in_err-slot : goal.returns-in_err-slot
 returns-in_err-slot c =
     let s = c.args.self.now in
-    ap seen c.from-residual.ensures ∙ sym (absent_at (cells s.table) _ _ (good_of s) c.args.id (sym c.in_err-slot.ensures))
+    ap seen c.from_residual.ensures ∙ sym (absent_at (cells s.table) _ _ (good_of s) c.args.id (sym c.in_err-slot.ensures))
 
 pub returns : goal.returns
 returns c =
     let s = c.args.self.now in
-    c.row-in.ensures ∙ sym (found_at (cells s.table) _ _ (good_of s) c.args.id _ (sym c.in_ok-slot.ensures))
+    c.row_in.ensures ∙ sym (found_at (cells s.table) _ _ (good_of s) c.args.id _ (sym c.in_ok-slot.ensures))

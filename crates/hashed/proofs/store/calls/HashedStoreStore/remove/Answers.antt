@@ -17,5 +17,5 @@ returns-in_default c =
 pub returns : goal.returns
 returns c =
     let s = c.refresh.new.self in
-    ap accept c.take-away.ensures ∙ removes_done c.args.id (held s) (held_at (cells s.table) _ _ (good_of s) c.args.id _ (sym c.in-Some.ensures))
+    ap accept c.take_away.ensures ∙ removes_done c.args.id (held s) (held_at (cells s.table) _ _ (good_of s) c.args.id _ (sym c.in-Some.ensures))
     ∙ ap (removes c.args.id) c.refresh.ensures.same

@@ -5,7 +5,7 @@ use Rattle.hashed.specs.State.{length_held, nth_told}
 use Rattle.hashed.proofs.store.calls.HashedStoreStore.row_at.Goals as goal
 
 pub returns-then-place-count : goal.returns-then-place-count
-returns-then-place-count c = c.row-in.ensures ∙ sym (nth_told c.args.self.now c.args.place _ (omega (arith, c.count.ensures, c.if-place-count.true)))
+returns-then-place-count c = c.row_in.ensures ∙ sym (nth_told c.args.self.now c.args.place _ (omega (arith, c.count.ensures, c.if-place-count.true)))
 
 pub returns-else-place-count : goal.returns-else-place-count
 returns-else-place-count c =

@@ -23,10 +23,11 @@ put-requires c = (omega arith, within_held c.args.self.now c.args.id _ c.place-p
 
 pub invariant_of-self : goal.invariant_of-self
 invariant_of-self c =
-    let s = c.args.self.now in (
-      c.put.auto.rows ∙ s.long,
-      (omega arith, (adds_ordered s _ _ c.place-place.ensures c.if-has.ensures.value c.put.new.rows c.put.ensures, tt)),
-    )
+    let s = c.args.self.now in record {
+      long = c.put.auto.rows ∙ s.long;
+      within = omega arith;
+      ordered = adds_ordered s _ _ c.place-place.ensures c.if-has.ensures.value c.put.new.rows c.put.ensures;
+    }
 
 pub returns : goal.returns
 returns c = adds_told c.args.self.now _ _ c.place-place.ensures c.if-has.ensures.value c.put.new.rows c.put.ensures (omega arith)

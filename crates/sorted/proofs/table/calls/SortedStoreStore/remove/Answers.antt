@@ -12,10 +12,11 @@ returns-then-not-has c =
 pub invariant_of-self : goal.invariant_of-self
 invariant_of-self c =
     let s = c.args.self.now in
-    let told = c.if-not-has.ensures in (
-      c.cut.auto.rows ∙ s.long,
-      (omega arith, (removes_ordered s c.args.id _ c.place-place.ensures told.value (told.within tt) c.cut.new.rows c.cut.ensures, tt)),
-    )
+    let told = c.if-not-has.ensures in record {
+      long = c.cut.auto.rows ∙ s.long;
+      within = omega arith;
+      ordered = removes_ordered s c.args.id _ c.place-place.ensures told.value (told.within tt) c.cut.new.rows c.cut.ensures;
+    }
 
 pub returns : goal.returns
 returns c =

@@ -16,17 +16,18 @@ pub returns-in_err-span : goal.returns-in_err-span
 returns-in_err-span c =
     let s = c.args.self.now in
     let told = c.if-not-has.ensures in
-    let err = err_from_is_err_and c.from-residual.result c.from-residual.ensures.1 in
+    let err = err_from_is_err_and c.from_residual.result c.from_residual.ensures.1 in
     ap (λ a. outcome a (held s)) err.1
     ∙ sets_refused s c.args.id _ c.place-place.ensures told.value (told.within tt) _ c.args.end _ c.start.ensures _ (ap Err err.2 ∙ c.in_err-span.ensures)
 
 pub invariant_of-self-2 : goal.invariant_of-self-2
 invariant_of-self-2 c =
     let s = c.args.self.now in
-    let told = c.if-not-has.ensures in (
-      length-set s.rows _ _ ∙ s.long,
-      (omega arith, (sets_ordered s c.args.id _ c.place-place.ensures told.value (told.within tt) _ c.args.end _ c.start.ensures _ c.in_ok-span.span c.in_ok-span.ensures refl, tt)),
-    )
+    let told = c.if-not-has.ensures in record {
+      long = length-set s.rows _ _ ∙ s.long;
+      within = omega arith;
+      ordered = sets_ordered s c.args.id _ c.place-place.ensures told.value (told.within tt) _ c.args.end _ c.start.ensures _ c.in_ok-span.span c.in_ok-span.ensures refl;
+    }
 
 pub returns : goal.returns
 returns c =
