@@ -11,8 +11,8 @@ use Rattle.run.proofs.closing.close_all.Goals as goal
 pub loop-query-init : goal.loop-query-init
 loop-query-init g c = (refl, (c.requires.lines, refl), (c.requires.windows, refl), (omega arith, omega arith), λ rest over blame. refl)
 
-pub close-once-requires : goal.close-once-requires
-close-once-requires g c = record {
+pub close_once-requires : goal.close_once-requires
+close_once-requires g c = record {
   due = sym c.loop-query-test.ensures;
   lines = omega (arith, c.loop-query.invariant.1.0, c.loop-query.auto.lines);
   windows = omega (arith, c.loop-query.invariant.2.0, c.loop-query.auto.windows);

@@ -15,12 +15,12 @@ returns-in-Left g c =
     let q : QueryState = state g.S.Store.rows g.T.Store.rows c.args.query.now in
     let a : Stream = g.A.Source.stream c.args.left.now in
     let b : Stream = g.B.Source.stream c.args.right.now in
-    let made : Fed = fed c.feed-left.result (state g.S.Store.rows g.T.Store.rows c.feed-left.new.query) in
-    let after : Both Stream = both (g.A.Source.stream c.feed-left.new.source) b in
+    let made : Fed = fed c.feed_left.result (state g.S.Store.rows g.T.Store.rows c.feed_left.new.query) in
+    let after : Both Stream = both (g.A.Source.stream c.feed_left.new.source) b in
     record {
-      value = subst (λ (x : Side). made ≡ stepped s q x (pick x (both (shallow a) (shallow b)))) (sym c.in-Left.is) c.feed-left.ensures.value;
-      after = subst (λ (x : Side). after ≡ put x (rest_of (pick x (both a b))) (both a b)) (sym c.in-Left.is) (ap (λ src. both src b) c.feed-left.ensures.after);
-      same = c.feed-left.ensures.same;
+      value = subst (λ (x : Side). made ≡ stepped s q x (pick x (both (shallow a) (shallow b)))) (sym c.in-Left.is) c.feed_left.ensures.value;
+      after = subst (λ (x : Side). after ≡ put x (rest_of (pick x (both a b))) (both a b)) (sym c.in-Left.is) (ap (λ src. both src b) c.feed_left.ensures.after);
+      same = c.feed_left.ensures.same;
     }
 
 pub returns-in-Right : goal.returns-in-Right
@@ -29,10 +29,10 @@ returns-in-Right g c =
     let q : QueryState = state g.S.Store.rows g.T.Store.rows c.args.query.now in
     let a : Stream = g.A.Source.stream c.args.left.now in
     let b : Stream = g.B.Source.stream c.args.right.now in
-    let made : Fed = fed c.feed-right.result (state g.S.Store.rows g.T.Store.rows c.feed-right.new.query) in
-    let after : Both Stream = both a (g.B.Source.stream c.feed-right.new.source) in
+    let made : Fed = fed c.feed_right.result (state g.S.Store.rows g.T.Store.rows c.feed_right.new.query) in
+    let after : Both Stream = both a (g.B.Source.stream c.feed_right.new.source) in
     record {
-      value = subst (λ (x : Side). made ≡ stepped s q x (pick x (both (shallow a) (shallow b)))) (sym c.in-Right.is) c.feed-right.ensures.value;
-      after = subst (λ (x : Side). after ≡ put x (rest_of (pick x (both a b))) (both a b)) (sym c.in-Right.is) (ap (λ src. both a src) c.feed-right.ensures.after);
-      same = c.feed-right.ensures.same;
+      value = subst (λ (x : Side). made ≡ stepped s q x (pick x (both (shallow a) (shallow b)))) (sym c.in-Right.is) c.feed_right.ensures.value;
+      after = subst (λ (x : Side). after ≡ put x (rest_of (pick x (both a b))) (both a b)) (sym c.in-Right.is) (ap (λ src. both a src) c.feed_right.ensures.after);
+      same = c.feed_right.ensures.same;
     }

@@ -34,11 +34,11 @@ returns-in-Ok g c =
     let l = c.args.left.now in
     let r = c.args.right.now in
     let srcs : Both Stream = both (g.A.Source.stream l) (g.B.Source.stream r) in
-    let a : Report = reported c.run-query.result c.run-query.new.lines c.run-query.new.windows in
-    let is : a ≡ run s p (shallows srcs) = c.run-query.ensures.value ∙ runs_opened s p srcs t q c.in-Ok.ensures in
+    let a : Report = reported c.run_query.result c.run_query.new.lines c.run_query.new.windows in
+    let is : a ≡ run s p (shallows srcs) = c.run_query.ensures.value ∙ runs_opened s p srcs t q c.in-Ok.ensures in
     record {
       value = is ∙ runs_on s p srcs t q c.in-Ok.ensures;
-      later = (c.run-query.ensures.lines, c.run-query.ensures.windows);
+      later = (c.run_query.ensures.lines, c.run_query.ensures.windows);
       promise = λ lawful.
           promise g.L.Payload.kind g.R.Payload.kind g.S.Store.capacity g.T.Store.capacity c.args.width p
           (both (g.A.Source.rules l) (g.B.Source.rules r)) (both (g.A.Source.foot l) (g.B.Source.foot r)) srcs a lawful

@@ -27,8 +27,8 @@ loop-query-init g c =
     let all : turns_left (entries_of first) (both false false) ≡ turns (shallows first) = omega arith in
     (refl, refl, (omega arith, refl), (omega arith, refl), ap (λ n. ran s p (shallows first) n x) all)
 
-pub take-turn-turned-requires : goal.take-turn-turned-requires
-take-turn-turned-requires g c = record {
+pub take_turn-turned-requires : goal.take_turn-turned-requires
+take_turn-turned-requires g c = record {
   unended = sym c.loop-query-test.ensures;
   lines = omega (arith, c.loop-query.invariant.2.0, c.loop-query.auto.lines);
   windows = omega (arith, c.loop-query.invariant.3.0, c.loop-query.auto.windows);
@@ -37,29 +37,29 @@ take-turn-turned-requires g c = record {
 pub loop-query-smaller : goal.loop-query-smaller
 loop-query-smaller g c =
     let srcs : Both Stream = both (g.A.Source.stream c.loop-query.left) (g.B.Source.stream c.loop-query.right) in
-    let srcs' : Both Stream = both (g.A.Source.stream c.take-turn-turned.new.left) (g.B.Source.stream c.take-turn-turned.new.right) in
-    let m : ℕ = turns_left (entries_of srcs') (sides c.take-turn-turned.result.progress.over) in
+    let srcs' : Both Stream = both (g.A.Source.stream c.take_turn-turned.new.left) (g.B.Source.stream c.take_turn-turned.new.right) in
+    let m : ℕ = turns_left (entries_of srcs') (sides c.take_turn-turned.result.progress.over) in
     let n : ℕ = turns_left (entries_of srcs) (sides c.loop-query.progress.over) in
-    omega (arith, subst (λ (o : Option Fault). Spends o m n) c.in_default.is c.take-turn-turned.ensures.spent)
+    omega (arith, subst (λ (o : Option Fault). Spends o m n) c.in_default.is c.take_turn-turned.ensures.spent)
 
 pub loop-query-preserved : goal.loop-query-preserved
 loop-query-preserved g c =
     let i = c.loop-query.invariant in
-    let told = c.take-turn-turned.ensures in
+    let told = c.take_turn-turned.ensures in
     let s : Setup = setup g.L.Payload.kind g.R.Payload.kind g.S.Store.capacity g.T.Store.capacity c.args.query.now in
     let t : Setup = setup g.L.Payload.kind g.R.Payload.kind g.S.Store.capacity g.T.Store.capacity c.loop-query.query in
     let q : QueryState = state g.S.Store.rows g.T.Store.rows c.loop-query.query in
-    let q' : QueryState = state g.S.Store.rows g.T.Store.rows c.take-turn-turned.new.query in
+    let q' : QueryState = state g.S.Store.rows g.T.Store.rows c.take_turn-turned.new.query in
     let first : Both Stream = both (g.A.Source.stream c.args.left.now) (g.B.Source.stream c.args.right.now) in
     let srcs : Both Stream = both (g.A.Source.stream c.loop-query.left) (g.B.Source.stream c.loop-query.right) in
-    let srcs' : Both Stream = both (g.A.Source.stream c.take-turn-turned.new.left) (g.B.Source.stream c.take-turn-turned.new.right) in
+    let srcs' : Both Stream = both (g.A.Source.stream c.take_turn-turned.new.left) (g.B.Source.stream c.take_turn-turned.new.right) in
     let ls : List Line = c.loop-query.lines in
     let ws : List Window = c.loop-query.windows in
     let lines : length ls ≡ length c.args.lines.now = omega (arith, c.loop-query.auto.lines) in
     let windows : length ws ≡ length c.args.windows.now = omega (arith, c.loop-query.auto.windows) in
     let x : RunState = stands q srcs ls ws c.loop-query.progress in
-    let y = c.take-turn-turned.result.progress in
-    let x' : RunState = stands q' srcs' c.take-turn-turned.new.lines c.take-turn-turned.new.windows y in
+    let y = c.take_turn-turned.result.progress in
+    let x' : RunState = stands q' srcs' c.take_turn-turned.new.lines c.take_turn-turned.new.windows y in
     let m : ℕ = turns_left (entries_of srcs') (sides y.over) in
     let n : ℕ = turns_left (entries_of srcs) (sides c.loop-query.progress.over) in (
       told.same ∙ i.0,
@@ -67,7 +67,7 @@ loop-query-preserved g c =
       later_then c.loop-query.progress.written.lines y.written.lines c.args.lines.now ls _ told.more.0 lines i.2 told.lines,
       later_then c.loop-query.progress.written.windows y.written.windows c.args.windows.now ws _ told.more.1 windows i.3 told.windows,
       goes_further s (places c.args.lines.now c.args.windows.now) t i.0 (places ls ws) (λ k. record { lines = lines k; windows = windows k })
-          srcs first i.1 x x' c.take-turn-turned.result.fault told.value (sym c.loop-query-test.ensures) n m
+          srcs first i.1 x x' c.take_turn-turned.result.fault told.value (sym c.loop-query-test.ensures) n m
           (subst (λ (o : Option Fault). Spends o m n) c.in_default.is told.spent) c.in_default.is
           ∙ i.4,
     )
@@ -75,28 +75,28 @@ loop-query-preserved g c =
 pub returns-in-Some : goal.returns-in-Some
 returns-in-Some g c =
     let i = c.loop-query.invariant in
-    let told = c.take-turn-turned.ensures in
+    let told = c.take_turn-turned.ensures in
     let s : Setup = setup g.L.Payload.kind g.R.Payload.kind g.S.Store.capacity g.T.Store.capacity c.args.query.now in
     let t : Setup = setup g.L.Payload.kind g.R.Payload.kind g.S.Store.capacity g.T.Store.capacity c.loop-query.query in
     let q : QueryState = state g.S.Store.rows g.T.Store.rows c.loop-query.query in
-    let q' : QueryState = state g.S.Store.rows g.T.Store.rows c.take-turn-turned.new.query in
+    let q' : QueryState = state g.S.Store.rows g.T.Store.rows c.take_turn-turned.new.query in
     let first : Both Stream = both (g.A.Source.stream c.args.left.now) (g.B.Source.stream c.args.right.now) in
     let srcs : Both Stream = both (g.A.Source.stream c.loop-query.left) (g.B.Source.stream c.loop-query.right) in
-    let srcs' : Both Stream = both (g.A.Source.stream c.take-turn-turned.new.left) (g.B.Source.stream c.take-turn-turned.new.right) in
+    let srcs' : Both Stream = both (g.A.Source.stream c.take_turn-turned.new.left) (g.B.Source.stream c.take_turn-turned.new.right) in
     let ls : List Line = c.loop-query.lines in
     let ws : List Window = c.loop-query.windows in
-    let ls' : List Line = c.take-turn-turned.new.lines in
-    let ws' : List Window = c.take-turn-turned.new.windows in
+    let ls' : List Line = c.take_turn-turned.new.lines in
+    let ws' : List Window = c.take_turn-turned.new.windows in
     let lines : length ls ≡ length c.args.lines.now = omega (arith, c.loop-query.auto.lines) in
     let windows : length ws ≡ length c.args.windows.now = omega (arith, c.loop-query.auto.windows) in
     let x : RunState = stands q srcs ls ws c.loop-query.progress in
-    let y = c.take-turn-turned.result.progress in
+    let y = c.take_turn-turned.result.progress in
     let x' : RunState = stands q' srcs' ls' ws' y in
     let unended : (x.over.left && x.over.right) ≡ false = sym c.loop-query-test.ensures in
     record {
       value = ap (λ (r : RunReport). reported r ls' ws') c.report.ensures
           ∙ stops_there s (places c.args.lines.now c.args.windows.now) t i.0 (places ls ws) (λ k. record { lines = lines k; windows = windows k })
-          srcs first i.1 x x' c.take-turn-turned.result.fault told.value unended (turns_left x.rest x.over)
+          srcs first i.1 x x' c.take_turn-turned.result.fault told.value unended (turns_left x.rest x.over)
           c.in-Some.fault c.in-Some.is (some_left x.rest x.over unended)
           ∙ i.4;
       lines = subst (λ (r : RunReport). Later r.lines c.args.lines.now ls') (sym c.report.ensures)

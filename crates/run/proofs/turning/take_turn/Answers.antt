@@ -16,15 +16,15 @@ returns-in-Ended g c =
     let q' : QueryState = state g.S.Store.rows g.T.Store.rows c.feed.new.query in
     let srcs : Both Stream = both (g.A.Source.stream c.args.left.now) (g.B.Source.stream c.args.right.now) in
     let srcs' : Both Stream = both (g.A.Source.stream c.feed.new.left) (g.B.Source.stream c.feed.new.right) in
-    let side = c.next-side-side.result in
+    let side = c.next_side-side.result in
     let told = c.in-Ended.ensures in
-    let y = c.end-side.result in
+    let y = c.end_side.result in
     record {
-      value = ended_turn s q q' srcs srcs' c.args.lines.now c.args.windows.now c.args.progress side c.next-side-side.ensures told.after
-          told.value y c.end-side.ensures;
-      spent = ended_spent s q q' srcs srcs' c.args.lines.now c.args.windows.now c.args.progress side c.next-side-side.ensures told.after
-          told.value y c.end-side.ensures c.requires.unended;
-      ends = ends_kept s q q' srcs srcs' c.args.lines.now c.args.windows.now c.args.progress side c.next-side-side.ensures told.after;
+      value = ended_turn s q q' srcs srcs' c.args.lines.now c.args.windows.now c.args.progress side c.next_side-side.ensures told.after
+          told.value y c.end_side.ensures;
+      spent = ended_spent s q q' srcs srcs' c.args.lines.now c.args.windows.now c.args.progress side c.next_side-side.ensures told.after
+          told.value y c.end_side.ensures c.requires.unended;
+      ends = ends_kept s q q' srcs srcs' c.args.lines.now c.args.windows.now c.args.progress side c.next_side-side.ensures told.after;
       lines = (c.requires.lines, refl);
       windows = (c.requires.windows, refl);
       more = (omega arith, omega arith);
@@ -38,13 +38,13 @@ returns-in-Failed g c =
     let q' : QueryState = state g.S.Store.rows g.T.Store.rows c.feed.new.query in
     let srcs : Both Stream = both (g.A.Source.stream c.args.left.now) (g.B.Source.stream c.args.right.now) in
     let srcs' : Both Stream = both (g.A.Source.stream c.feed.new.left) (g.B.Source.stream c.feed.new.right) in
-    let side = c.next-side-side.result in
+    let side = c.next_side-side.result in
     let told = c.in-Failed.ensures in
     record {
-      value = step_turn s q q' srcs srcs' c.args.lines.now c.args.windows.now c.args.progress side c.next-side-side.ensures told.after
+      value = step_turn s q q' srcs srcs' c.args.lines.now c.args.windows.now c.args.progress side c.next_side-side.ensures told.after
           (step.Failed c.in-Failed.fault) told.value;
       spent = tt;
-      ends = ends_kept s q q' srcs srcs' c.args.lines.now c.args.windows.now c.args.progress side c.next-side-side.ensures told.after;
+      ends = ends_kept s q q' srcs srcs' c.args.lines.now c.args.windows.now c.args.progress side c.next_side-side.ensures told.after;
       lines = (c.requires.lines, refl);
       windows = (c.requires.windows, refl);
       more = (omega arith, omega arith);
@@ -58,13 +58,13 @@ returns-in-Accepted g c =
     let q' : QueryState = state g.S.Store.rows g.T.Store.rows c.feed.new.query in
     let srcs : Both Stream = both (g.A.Source.stream c.args.left.now) (g.B.Source.stream c.args.right.now) in
     let srcs' : Both Stream = both (g.A.Source.stream c.feed.new.left) (g.B.Source.stream c.feed.new.right) in
-    let side = c.next-side-side.result in
+    let side = c.next_side-side.result in
     let told = c.in-Accepted.ensures in
     record {
-      value = step_turn s q q' srcs srcs' c.args.lines.now c.args.windows.now c.args.progress side c.next-side-side.ensures told.after
+      value = step_turn s q q' srcs srcs' c.args.lines.now c.args.windows.now c.args.progress side c.next_side-side.ensures told.after
           step.Accepted told.value;
-      spent = accepted_spent s q q' srcs srcs' c.args.lines.now c.args.windows.now c.args.progress side c.next-side-side.ensures told.after told.value;
-      ends = ends_kept s q q' srcs srcs' c.args.lines.now c.args.windows.now c.args.progress side c.next-side-side.ensures told.after;
+      spent = accepted_spent s q q' srcs srcs' c.args.lines.now c.args.windows.now c.args.progress side c.next_side-side.ensures told.after told.value;
+      ends = ends_kept s q q' srcs srcs' c.args.lines.now c.args.windows.now c.args.progress side c.next_side-side.ensures told.after;
       lines = (c.requires.lines, refl);
       windows = (c.requires.windows, refl);
       more = (omega arith, omega arith);
@@ -77,21 +77,21 @@ returns-in-Advanced g c =
     let t : Setup = setup g.L.Payload.kind g.R.Payload.kind g.S.Store.capacity g.T.Store.capacity c.feed.new.query in
     let q : QueryState = state g.S.Store.rows g.T.Store.rows c.args.query.now in
     let q' : QueryState = state g.S.Store.rows g.T.Store.rows c.feed.new.query in
-    let q'' : QueryState = state g.S.Store.rows g.T.Store.rows c.close-all-closed.new.query in
+    let q'' : QueryState = state g.S.Store.rows g.T.Store.rows c.close_all-closed.new.query in
     let srcs : Both Stream = both (g.A.Source.stream c.args.left.now) (g.B.Source.stream c.args.right.now) in
     let srcs' : Both Stream = both (g.A.Source.stream c.feed.new.left) (g.B.Source.stream c.feed.new.right) in
-    let side = c.next-side-side.result in
+    let side = c.next_side-side.result in
     let told = c.in-Advanced.ensures in
-    let closed = c.close-all-closed.ensures in
+    let closed = c.close_all-closed.ensures in
     record {
-      value = advanced_turn s q q' srcs srcs' c.args.lines.now c.args.windows.now c.args.progress side c.next-side-side.ensures told.after
-          c.in-Advanced.depth c.in-Advanced.number told.value t told.same q'' c.close-all-closed.new.lines c.close-all-closed.new.windows
-          c.close-all-closed.result.written c.close-all-closed.result.refusal c.closing-fault.result c.requires.windows
-          (closed.value _ _ _) c.closing-fault.ensures;
-      spent = spends_any c.closing-fault.result _ _
-          (advanced_spent s q q' srcs srcs' c.args.lines.now c.args.windows.now c.args.progress side c.next-side-side.ensures told.after
+      value = advanced_turn s q q' srcs srcs' c.args.lines.now c.args.windows.now c.args.progress side c.next_side-side.ensures told.after
+          c.in-Advanced.depth c.in-Advanced.number told.value t told.same q'' c.close_all-closed.new.lines c.close_all-closed.new.windows
+          c.close_all-closed.result.written c.close_all-closed.result.refusal c.closing_fault.result c.requires.windows
+          (closed.value _ _ _) c.closing_fault.ensures;
+      spent = spends_any c.closing_fault.result _ _
+          (advanced_spent s q q' srcs srcs' c.args.lines.now c.args.windows.now c.args.progress side c.next_side-side.ensures told.after
           c.in-Advanced.depth c.in-Advanced.number told.value);
-      ends = ends_kept s q q' srcs srcs' c.args.lines.now c.args.windows.now c.args.progress side c.next-side-side.ensures told.after;
+      ends = ends_kept s q q' srcs srcs' c.args.lines.now c.args.windows.now c.args.progress side c.next_side-side.ensures told.after;
       lines = closed.lines;
       windows = closed.windows;
       more = closed.more;
