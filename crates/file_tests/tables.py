@@ -1,5 +1,5 @@
 #!/usr/bin/env python3
-"""Writes src/tables.rt: what small files are read as, by a second reader that is written apart from the first.
+"""Writes src/tables.rt, which rt fmt then lays out: what small files are read as, by a second reader that is written apart from the first.
 
 A file is told as a pair: (0, how many events) where it is read to its end, else (refusal, event).
 """

@@ -10,7 +10,7 @@
 --     unless f p            p where the fault f is None, else the fault
 --     decimal_read bs       the number that bs begins with and the bytes after it, or the fault
 --     Written n rest bs     bs is n as it is printed and then rest, n is below 2 ^ 32, and rest begins with no digit
---     DecimalExact bs      bs is read as n and rest just where it is n as it is printed and then rest
+--     DecimalExact bs       bs is read as n and rest just where it is n as it is printed and then rest
 use Rattle.std.specs.Prelude.{◌≡◌, ℕ, ◌+◌, ◌-◌, ◌*◌, ◌^◌, ◌<◌, Bool, false, cond, ◌&&◌, ◌||◌, List, [], ◌∷◌, ◌++◌, Some, None, Ok, Err, decimal, Option, Result, ◌==◌, nat_le}
 use Rattle.refusals.specs.declared.refusal.Refusal.{Refusal}
 use Rattle.refusals.specs.declared.refusal.Refusal.TheVariants.{CutOff, BadByte, BadNumber}

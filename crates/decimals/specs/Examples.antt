@@ -1,5 +1,5 @@
 -- Decimal numbers and faults, worked.
---     DecimalExamples      what some texts are read as
+--     DecimalExamples       what some texts are read as
 use Rattle.std.specs.Prelude.{◌≡◌, [], Ok, Err, codes}
 use Rattle.refusals.specs.declared.refusal.Refusal.TheVariants.{CutOff, BadByte, BadNumber}
 use Rattle.decimals.specs.Decimals.{decimal_read}

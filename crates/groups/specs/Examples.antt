@@ -1,5 +1,5 @@
 -- Numbers in groups and faults, worked.
---     GroupsExamples      the groups of some numbers, and what some bytes are read as
+--     GroupsExamples       the groups of some numbers, and what some bytes are read as
 use Rattle.std.specs.Prelude.{◌≡◌, [], ◌∷◌, Ok, Err}
 use Rattle.refusals.specs.declared.refusal.Refusal.TheVariants.{CutOff, BadNumber}
 use Rattle.groups.specs.Groups.{groups_of, groups_read}

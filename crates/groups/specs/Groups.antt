@@ -11,7 +11,7 @@
 --     groups_of n           n in groups
 --     Bytes bs              each element is below 256
 --     Written n rest bs     n is below 2 ^ 32, and bs is its groups and then rest
---     GroupsExact bs       bs is read as n and rest just where it is the groups of n and then rest
+--     GroupsExact bs        bs is read as n and rest just where it is the groups of n and then rest
 use Rattle.std.specs.Prelude.{◌≡◌, ℕ, zero, suc, ◌+◌, ◌-◌, ◌*◌, ◌/◌, ◌%◌, ◌^◌, ◌<◌, cond, List, [], ◌∷◌, ◌++◌, Some, None, Ok, Err, Option, Result, ◌==◌, nat_lt, slice_index}
 use Rattle.std.specs.Borrow.{Bor}
 use Rattle.refusals.specs.declared.refusal.Refusal.{Refusal}

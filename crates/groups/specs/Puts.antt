@@ -1,7 +1,7 @@
 -- Bytes put into a slice.
 --     put_all out at bs          out with bs in the places from at on
 --     put out at bs              the place after bs, and out with bs from at on; None and out as it was where places lack
---     ReadsBack n at r out      where r is a place, the bytes of out from at on are read as n and the bytes from that place on
+--     ReadsBack n at r out       where r is a place, the bytes of out from at on are read as n and the bytes from that place on
 use Rattle.std.specs.Prelude.{◌≡◌, ℕ, ◌+◌, cond, List, [], ◌∷◌, length, drop, Some, None, Ok, Option, nat_le, slice_set}
 use Rattle.groups.specs.Groups.{groups_read}
 

@@ -1,5 +1,5 @@
 -- What a layer over a legal source is.
---     LayerLawful f fs foot src      where the list at the foot of a pile by the rules fs is legal, and the layer by f over the
+--     LayerLawful f fs foot src       where the list at the foot of a pile by the rules fs is legal, and the layer by f over the
 --                                 pile src does not fault, its list is legal, and its history has exactly the rows of the
 --                                 foot's history put through fs and then f, each once
 use Rattle.std.specs.Prelude.{◌≡◌, List, [], ◌∷◌, ◌++◌}

@@ -1,7 +1,7 @@
 -- Histories: what a retraction moves, and what the history up to a time has.
 --     Moved r e xs x              x is a row of xs other than r, or r with the end e
 --     cut t x                     x with an end above t cut to t
---     OneLate t xs               rows of one id that end at t or later are one row
+--     OneLate t xs                rows of one id that end at t or later are one row
 use Rattle.std.proofs.Common.{◌≡◌, ℕ, ◌<◌, ◌≤◌, min, cond, ltb, ◌⊎◌, List, [], ◌∷◌, ◌++◌, sym, refl, ap, ◌∙◌, subst, inl, inr, ⊎_elim, arith}
 use Rattle.std.proofs.lemmas.Bool.{ltb-true, eqb-true, eqb-false, lt-ltb, le-ltb, cond_both, cond-false, cases_lt, both_ways}
 use Rattle.rows.specs.Rows.{Plain, same, with_end}

@@ -1,10 +1,10 @@
 -- The laws of receipts: whatever calls are made on a new query, in whatever order, accepted or refused.
---     ReceiptsExact              the handed-out lines are exactly the lines of both canonical histories' join that end
+--     ReceiptsExact               the handed-out lines are exactly the lines of both canonical histories' join that end
 --                                 before the closed time, each once
---     ReceiptsDetermined         lines and counts depend on the histories up to the closed time alone
---     CountsTrue                 each window's count is that of both canonical histories' join
---     AccountsBalance            inserts = rows taken away whole + rows purged + rows held; closed time = width times closings
---     RowsSound                  every row of a canonical history has lawful times, and a payload in its kind's range
+--     ReceiptsDetermined          lines and counts depend on the histories up to the closed time alone
+--     CountsTrue                  each window's count is that of both canonical histories' join
+--     AccountsBalance             inserts = rows taken away whole + rows purged + rows held; closed time = width times closings
+--     RowsSound                   every row of a canonical history has lawful times, and a payload in its kind's range
 use Rattle.std.specs.Prelude.{◌≡◌, ℕ, zero, suc, ◌+◌, ◌*◌, ◌<◌, Bool, true, false, List, [], ◌∷◌, ◌++◌, length}
 use Rattle.refusals.specs.declared.fault.Side.{Side}
 use Rattle.refusals.specs.declared.fault.Side.TheVariants.{Left, Right}

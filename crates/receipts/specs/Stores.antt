@@ -11,7 +11,7 @@
 --     adds capacity r rows        adding r: IdInUse where its id is held, else StoreFull at capacity
 --     sets id e rows              setting an end: NoSuchRow, or BadTime where the held row may not have it
 --     removes id rows             removing a row: NoSuchRow
-use Rattle.std.specs.Prelude.{ℕ, zero, suc, ◌<◌, Bool, false, cond, ◌||◌, ltb, List, [], ◌∷◌, length, Some, None, Ok, Err, Option, Result, ◌==◌, nat_le, nat_lt}
+use Rattle.std.specs.Prelude.{ℕ, zero, suc, ◌<◌, Bool, false, cond, ◌||◌, List, [], ◌∷◌, length, Some, None, Ok, Err, Option, Result, ◌==◌, nat_le, nat_lt}
 use Rattle.refusals.specs.declared.refusal.Refusal.{Refusal}
 use Rattle.refusals.specs.declared.refusal.Refusal.TheVariants.{BadTime, IdInUse, NoSuchRow, StoreFull}
 use Rattle.rows.specs.Rows.{Plain, with_end}
@@ -62,7 +62,7 @@ kept g [] = []
 kept g (x ∷ xs) = cond (nat_lt x.end g) (kept g xs) (x ∷ kept g xs)
 
 abbrev pub gone : ℕ → List Plain → ℕ
-gone g rows = tally (λ x. ltb x.end g) rows
+gone g rows = tally (λ x. nat_lt x.end g) rows
 
 pub record Outcome (X : Type 0) : Type 0 where
   pub answer : Result (Unit {0}) Refusal

@@ -2,9 +2,9 @@
 --     Selecting                   which rows select keeps, at its bounds
 --     Shifting                    what shift makes of rows and CTIs, at the last time
 --     Lasting                     what set_duration makes of rows and CTIs, at the last time
---     SelectedLayer              a layer by select over a small list
---     LastingLayer               a layer by set_duration
---     ShiftedLayer               a layer by shift, which ends at a refused event
+--     SelectedLayer               a layer by select over a small list
+--     LastingLayer                a layer by set_duration
+--     ShiftedLayer                a layer by shift, which ends at a refused event
 --     Piled                       two rules over one row, in both orders
 --     Examples                    all of them
 use Rattle.std.specs.Prelude.{◌≡◌, ℕ, ◌*◌, cond, List, [], ◌∷◌, ◌==◌}

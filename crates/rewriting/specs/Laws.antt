@@ -1,9 +1,9 @@
 -- The laws of layers and piles.
---     LayersLawful               over a legal list, a layer that doesn't fault has a legal list, whose history is the rule's
+--     LayersLawful                over a legal list, a layer that doesn't fault has a legal list, whose history is the rule's
 --                                 image of the one below
---     PilesLawful                so it is with piles of any height
---     PilesGrow                  a pile with one more rule on top is a layer over the pile
---     RulesKeep                  the engine's rules keep the laws of row rules
+--     PilesLawful                 so it is with piles of any height
+--     PilesGrow                   a pile with one more rule on top is a layer over the pile
+--     RulesKeep                   the engine's rules keep the laws of row rules
 use Rattle.std.specs.Prelude.{◌≡◌, ℕ, ◌<◌, List, [], ◌∷◌, ◌++◌}
 use Rattle.refusals.specs.declared.ending.Ending.TheVariants.{End}
 use Rattle.rows.specs.Kinds.{Kind}

@@ -23,7 +23,7 @@ pub fn piles_grow() -> u8
     0
 }
 
-// Select, shift and set_duration keep the laws of row rules.
+// Select, shift and set duration keep the laws of row rules.
 pub fn rules_keep_laws() -> u8
     ensures { RulesKeep }
 {

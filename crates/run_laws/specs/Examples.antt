@@ -59,16 +59,16 @@ abbrev pub hall_run : Places → Report
 hall_run p = run hall p (piled hall_rules hall_streams)
 
 abbrev pub receipt_line : ℕ → ℕ → ℕ → ℕ → ℕ → ℕ → ℕ → ℕ → ℕ → Line
-receipt_line left right start end key left-least left-most right-least right-most = record {
+receipt_line left right start end key left_least left_most right_least right_most = record {
   left_id = left;
   right_id = right;
   start = start;
   end = end;
   key = key;
-  left_least = left-least;
-  left_most = left-most;
-  right_least = right-least;
-  right_most = right-most;
+  left_least = left_least;
+  left_most = left_most;
+  right_least = right_least;
+  right_most = right_most;
 }
 
 -- the row of locker 8 on the left ends before its reading starts, so that the two never join

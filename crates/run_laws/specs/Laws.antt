@@ -10,13 +10,13 @@
 --     Accounted s srcs a          inserts = rows taken away whole + rows purged + rows held; all that may be closed is closed
 --     Stands s fs srcs a          the report a over streams under piles is made, exact, counted and accounted for
 -- The laws:
---     RunsMade                   every run's report is made so, with fault or without
---     RunsExact                  a run over legal streams under piles that ends without fault hands out exactly the lines of the
+--     RunsMade                    every run's report is made so, with fault or without
+--     RunsExact                   a run over legal streams under piles that ends without fault hands out exactly the lines of the
 --                                 rewritten histories' join that end before its closed time, each once
---     RunsCounted                its window counts are those of the rewritten histories' join
---     RunsAccounted              a run over any streams that ends without fault is accounted for
---     RunsDetermined             a run's lines and counts depend on the rewritten histories up to its closed time alone
---     RunsStand                  the first four together, of the run itself
+--     RunsCounted                 its window counts are those of the rewritten histories' join
+--     RunsAccounted               a run over any streams that ends without fault is accounted for
+--     RunsDetermined              a run's lines and counts depend on the rewritten histories up to its closed time alone
+--     RunsStand                   the first four together, of the run itself
 use Rattle.std.specs.Prelude.{◌≡◌, ℕ, ◌+◌, ◌*◌, ◌<◌, ◌≤◌, min, false, List, [], ◌∷◌, ◌++◌, length}
 use Rattle.refusals.specs.declared.ending.Ending.TheVariants.{End}
 use Rattle.refusals.specs.declared.fault.Side.{Side}

@@ -3,7 +3,7 @@
 --     all_readings ns     each of ns is a reading, 0 to 4,095
 --     whole ns            the outcome of weighing each of ns, with no fault
 --     Written ns bs       bs is ns as they are printed, one to a line, all of them readings, in at most 65,536 bytes
---     InputExact bs      the outcome of bs is that of ns, with no fault, just where bs is ns, one to a line
+--     InputExact bs       the outcome of bs is that of ns, with no fault, just where bs is ns, one to a line
 use Rattle.std.specs.Prelude.{◌≡◌, ℕ, ◌≤◌, Bool, true, ◌&&◌, List, [], ◌∷◌, ◌++◌, map, length, None, decimal, nat_le}
 use Rattle.weighing.specs.Lines.{weighed}
 use Rattle.weighing.specs.Inputs.{Outcome, input_weighed}

@@ -23,7 +23,8 @@ use tables::table::{CAPACITY, Table};
 
 // Puts an item at a place among the first `count`.
 fn put<T: Copy>(items: &mut [T], count: usize, place: usize, item: T)
-    requires { (count < length items.old) × (place ≤ count) }
+    requires room { count < length items.old }
+    requires within { place ≤ count }
     ensures { take (count + 1) items.new ≡ insert (take count items.old) place item }
 {
     items.copy_within(place..count, place + 1);
@@ -32,7 +33,8 @@ fn put<T: Copy>(items: &mut [T], count: usize, place: usize, item: T)
 
 // Takes the item at a place away from the first `count`.
 fn cut<T: Copy>(items: &mut [T], count: usize, place: usize)
-    requires { (count ≤ length items.old) × (place < count) }
+    requires room { count ≤ length items.old }
+    requires within { place < count }
     ensures { take (count - 1) items.new ≡ remove (take count items.old) place }
 {
     items.copy_within(place + 1..count, place);

@@ -2,7 +2,7 @@
 ghost use Rattle.std.specs.Prelude.{◌≡◌};
 ghost use Rattle.refusals.specs.declared.fault.Side.TheVariants.{Left, Right};
 ghost use Rattle.rows.specs.Events.{plain_event};
-ghost use Rattle.receipts.specs.Queries.{called, event as event-call};
+ghost use Rattle.receipts.specs.Queries.{called, event as event_call};
 ghost use Rattle.query.specs.Answers.{answers, event_told};
 ghost use Rattle.query.specs.Queries.{setup, state};
 
@@ -17,7 +17,7 @@ impl<L: Payload, R: Payload, S: Store, T: Store> Query<L, R, S, T> {
     pub fn left_event(&mut self, event: Event<L>) -> Result<(), Fault>
         ensures call { answers (event_told result) (state S.Store.rows T.Store.rows self.new)
             ≡ called (setup L.Payload.kind R.Payload.kind S.Store.capacity T.Store.capacity self.old)
-            (state S.Store.rows T.Store.rows self.old) (event-call Left (plain_event L.Payload.pair event)) }
+            (state S.Store.rows T.Store.rows self.old) (event_call Left (plain_event L.Payload.pair event)) }
         ensures same { setup L.Payload.kind R.Payload.kind S.Store.capacity T.Store.capacity self.new
             ≡ setup L.Payload.kind R.Payload.kind S.Store.capacity T.Store.capacity self.old }
     {
@@ -28,7 +28,7 @@ impl<L: Payload, R: Payload, S: Store, T: Store> Query<L, R, S, T> {
     pub fn right_event(&mut self, event: Event<R>) -> Result<(), Fault>
         ensures call { answers (event_told result) (state S.Store.rows T.Store.rows self.new)
             ≡ called (setup L.Payload.kind R.Payload.kind S.Store.capacity T.Store.capacity self.old)
-            (state S.Store.rows T.Store.rows self.old) (event-call Right (plain_event R.Payload.pair event)) }
+            (state S.Store.rows T.Store.rows self.old) (event_call Right (plain_event R.Payload.pair event)) }
         ensures same { setup L.Payload.kind R.Payload.kind S.Store.capacity T.Store.capacity self.new
             ≡ setup L.Payload.kind R.Payload.kind S.Store.capacity T.Store.capacity self.old }
     {

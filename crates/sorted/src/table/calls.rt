@@ -34,7 +34,8 @@ impl SortedStore {
 
 // Puts a row at a place among the first `count`.
 fn put(rows: &mut [PlainRow], count: usize, place: usize, row: PlainRow)
-    requires { (count < length rows.old) × (place ≤ count) }
+    requires room { count < length rows.old }
+    requires within { place ≤ count }
     ensures { take (count + 1) rows.new ≡ insert (take count rows.old) place row }
 {
     rows.copy_within(place..count, place + 1);
@@ -43,7 +44,8 @@ fn put(rows: &mut [PlainRow], count: usize, place: usize, row: PlainRow)
 
 // Takes the row at a place away from the first `count`.
 fn cut(rows: &mut [PlainRow], count: usize, place: usize)
-    requires { (count ≤ length rows.old) × (place < count) }
+    requires room { count ≤ length rows.old }
+    requires within { place < count }
     ensures { take (count - 1) rows.new ≡ remove (take count rows.old) place }
 {
     rows.copy_within(place + 1..count, place);

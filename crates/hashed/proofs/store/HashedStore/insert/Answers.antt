@@ -36,7 +36,7 @@ pub put-requires-2 : goal.put-requires-2
 put-requires-2 c =
     let s = c.args.self.now in
     let room = put_room s c.put.new.self (plain c.args.row) _ c.in_ok-slot.ensures.told _ c.args.at c.count-count.ensures c.requires in
-    (omega (arith, room.0, s.wide), room.1)
+    record { room = omega (arith, room.0, s.wide); within = room.1 }
 
 pub overflow_cast-slot : goal.overflow_cast-slot
 overflow_cast-slot c =
@@ -47,7 +47,7 @@ pub put-requires-3 : goal.put-requires-3
 put-requires-3 c =
     let s = c.args.self.now in
     let room = put_room s c.put.new.self (plain c.args.row) _ c.in_ok-slot.ensures.told _ c.args.at c.count-count.ensures c.requires in
-    (omega (arith, room.0, s.long), room.1)
+    record { room = omega (arith, room.0, s.long); within = room.1 }
 
 pub invariant_of-self-2 : goal.invariant_of-self-2
 invariant_of-self-2 c =

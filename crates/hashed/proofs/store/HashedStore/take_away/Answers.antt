@@ -7,13 +7,13 @@ pub cut-requires : goal.cut-requires
 cut-requires c =
     let s = c.args.self.now in
     let room = cut_room s c.clear.new.self c.args.id c.args.slot c.requires.here c.clear.ensures.after _ _ c.count-count.ensures c.place-place.ensures in
-    (omega (arith, room.0, s.wide), room.1)
+    record { room = omega (arith, room.0, s.wide); within = room.1 }
 
 pub cut-requires-2 : goal.cut-requires-2
 cut-requires-2 c =
     let s = c.args.self.now in
     let room = cut_room s c.clear.new.self c.args.id c.args.slot c.requires.here c.clear.ensures.after _ _ c.count-count.ensures c.place-place.ensures in
-    (omega (arith, room.0, s.long), room.1)
+    record { room = omega (arith, room.0, s.long); within = room.1 }
 
 pub invariant_of-self : goal.invariant_of-self
 invariant_of-self c =

@@ -19,7 +19,7 @@ returns-then-self-eq-CAPACITY c =
     (holds_told s c.args.id _ c.place-place.ensures false c.if-has.ensures.value) (omega (arith, count_held s))
 
 pub put-requires : goal.put-requires
-put-requires c = (omega arith, within_held c.args.self.now c.args.id _ c.place-place.ensures)
+put-requires c = record { room = omega arith; within = within_held c.args.self.now c.args.id _ c.place-place.ensures }
 
 pub invariant_of-self : goal.invariant_of-self
 invariant_of-self c =
