@@ -1,5 +1,5 @@
 -- The bytes that are written for some events are read as them, and no other bytes are. Assumes nothing.
-use Rattle.std.proofs.Common.{◌≡◌, ℕ, ◌+◌, ◌<◌, ◌≤◌, true, ltb, List, [], ◌∷◌, ◌++◌, length, Ok, sym, refl, ap, ◌∙◌, subst, inl, inr, arith}
+use Rattle.std.proofs.Common.{◌≡◌, ℕ, ◌+◌, ◌≤◌, true, ltb, List, [], ◌∷◌, ◌++◌, length, sym, refl, ap, ◌∙◌, inl, inr, arith}
 use Rattle.std.proofs.lemmas.Bool.{and_parts, cases_lt, cond-true, lt-ltb}
 use Rattle.refusals.specs.declared.ending.Ending.TheVariants.{End, Failed}
 use Rattle.refusals.specs.declared.refusal.Refusal.TheVariants.{TooLong}
@@ -11,7 +11,7 @@ use Rattle.rows.specs.Events.{PlainEvent, plain_event, timely}
 use Rattle.rows.specs.Kinds.{Kind, Pair, in_range}
 use Rattle.sources.specs.Listing.{numbered, listed_stream}
 use Rattle.files.specs.Judging.{event_in, payload_fits, fields_of}
-use Rattle.files.specs.Reading.{Course, event, fault, before, one_of, one, ends, gives, course, stream_of, file_course, file_stream}
+use Rattle.files.specs.Reading.{Course, event, before, one_of, one, gives, course, stream_of, file_stream}
 use Rattle.files.proofs.Courses.{course_fault, file_short}
 use Rattle.files.proofs.Exact.{fields_judged, judged_fields}
 use Rattle.files.proofs.Exact.{event_back as event_of_fields}

@@ -1,11 +1,11 @@
 -- An event is read from its bytes, and from no others. Assumes nothing.
-use Rattle.std.proofs.Common.{◌≡◌, ℕ, suc, ◌+◌, ◌^◌, ◌<◌, List, [], ◌∷◌, ◌++◌, length, get_or, Ok, Err, sym, refl, ap, ◌∙◌, subst, arith}
+use Rattle.std.proofs.Common.{◌≡◌, ℕ, suc, ◌+◌, ◌^◌, ◌<◌, List, [], ◌∷◌, ◌++◌, length, Ok, sym, refl, ap, ◌∙◌, subst, arith}
 use Rattle.std.proofs.lemmas.List.{append_assoc, get_or-append-add}
 use Rattle.files.specs.declared.fields.EndField.{EndField}
 use Rattle.files.specs.declared.fields.Fields.{Fields}
 use Rattle.files.specs.declared.fields.Fields.TheVariants.{Insert, Retraction, Cti}
 use Rattle.files.specs.Judging.{time_of, event_in, field_of, fields_of}
-use Rattle.files.specs.Orders.{Part, bind, Head, head_by, pair_by, row_from, insert_by, retraction_by, cti_by}
+use Rattle.files.specs.Orders.{bind, Head, head_by, pair_by, row_from, insert_by, retraction_by, cti_by}
 use Rattle.files.proofs.Binding.{ok_parts, bind_parts}
 use Rattle.files.proofs.Exact.{time_field}
 use Rattle.groups.specs.Groups.{groups_read, groups_of, Bytes}

@@ -1,11 +1,9 @@
 -- Parts of a file that are read one after another. Assumes nothing.
-use Rattle.std.proofs.Common.{◌≡◌, ℕ, ◌+◌, ◌<◌, List, [], ◌∷◌, ◌++◌, length, Ok, Err, sym, refl, ap, ◌∙◌, arith}
+use Rattle.std.proofs.Common.{◌≡◌, ℕ, List, ◌∷◌, ◌++◌, Ok, Err, sym, refl, ap, ◌∙◌, arith}
 use Rattle.std.proofs.lemmas.List.{append_assoc, length-append}
-use Rattle.refusals.specs.declared.refusal.Refusal.{Refusal}
 use Rattle.files.specs.declared.fields.EndField.{EndField}
-use Rattle.files.specs.declared.fields.Fields.{Fields}
 use Rattle.files.specs.declared.fields.Fields.TheVariants.{Insert, Retraction, Cti}
-use Rattle.files.specs.Orders.{Part, bind, Head, head_by, pair_by, row_from, insert_by, retraction_by, cti_by}
+use Rattle.files.specs.Orders.{Part, bind, head_by, pair_by, row_from, insert_by, retraction_by, cti_by}
 use Rattle.files.specs.Reading.{Ends}
 
 pub ok_parts : {A : Type 0} (a b : A) (xs bs : List ℕ) → ◌≡◌ {A = Part A} (Ok (a, xs)) (Ok (b, bs)) → (a ≡ b) × (xs ≡ bs)

@@ -1,7 +1,6 @@
 -- An event has one way to stand as fields: those of the event are judged to be it, and no others are. Assumes nothing.
-use Rattle.std.proofs.Common.{◌≡◌, ℕ, Bool, true, false, cond, ◌&&◌, ◌||◌, eqb, Ok, Err, Result, sym, refl, ap, ◌∙◌, subst, inl, inr, arith}
+use Rattle.std.proofs.Common.{◌≡◌, ℕ, Bool, true, false, cond, eqb, Ok, Err, sym, refl, ap, ◌∙◌, inl, inr, arith}
 use Rattle.std.proofs.lemmas.Bool.{cases_Bool, cond-true, cond-false, and_parts, and_from, or_cases, leb-true, eqb-true, ne_eqb, both_ways}
-use Rattle.refusals.specs.declared.refusal.Refusal.{Refusal}
 use Rattle.refusals.specs.declared.refusal.Refusal.TheVariants.{BadPayload, BadTime}
 use Rattle.rows.specs.Events.{PlainEvent, insert, retraction, cti, timely}
 use Rattle.rows.specs.Kinds.{Kind}

@@ -1,5 +1,5 @@
 -- An event at the front of some bytes: its fields, and that they take at least one byte. Assumes nothing.
-use Rattle.std.proofs.Common.{◌≡◌, ℕ, ◌+◌, ◌-◌, ◌<◌, ◌≤◌, true, ◌⊎◌, List, [], ◌∷◌, ◌++◌, length, drop, Ok, Err, Result, sym, refl, ap, ◌∙◌, inl, inr, arith}
+use Rattle.std.proofs.Common.{◌≡◌, ℕ, ◌+◌, ◌-◌, ◌<◌, ◌≤◌, true, ◌⊎◌, List, [], ◌∷◌, length, drop, Ok, Err, Result, sym, refl, ap, ◌∙◌, inl, inr, arith}
 use Rattle.std.proofs.lemmas.List.{length-append, length-drop, drop_at, drop-drop}
 use Rattle.refusals.specs.declared.refusal.Refusal.{Refusal}
 use Rattle.rows.specs.Events.{PlainEvent, timely}
@@ -7,7 +7,7 @@ use Rattle.rows.specs.Kinds.{Kind}
 use Rattle.files.specs.declared.fields.Fields.{Fields}
 use Rattle.files.specs.Judging.{payload_fits, judged, fields_of}
 use Rattle.files.specs.Orders.{Part}
-use Rattle.files.specs.Reading.{Reads, Ends, One, nothing, event, fault, before, one_of, one}
+use Rattle.files.specs.Reading.{Reads, Ends, One, event, fault, before, one_of, one}
 use Rattle.files.proofs.Exact.{judged_fields}
 
 before_event : (r : Result PlainEvent Refusal) (after rest : List ℕ) (e : PlainEvent) → before after r ≡ event e rest → (r ≡ Ok e) × (after ≡ rest)

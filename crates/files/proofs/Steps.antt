@@ -10,8 +10,7 @@ use Rattle.rows.specs.Kinds.{Kind}
 use Rattle.sources.specs.Taking.{next, ended, next_in, rest_of}
 use Rattle.files.specs.declared.fields.Fields.{Fields}
 use Rattle.files.specs.declared.reader.State.{State}
-use Rattle.files.specs.declared.reader.State.TheVariants.{Reading, Ended}
-use Rattle.files.specs.declared.reader.State.TheVariants.{Failed as stopped}
+use Rattle.files.specs.declared.reader.State.TheVariants.{Reading}
 use Rattle.files.specs.Reading.{Reads, Ends, event, fault, one_of, one, ends, gives, course, stream_of}
 use Rattle.files.specs.Readers.{reader_course, reader_stream}
 use Rattle.files.proofs.Ones.{one_fields, one_some, ends_shorter, ends_place}

@@ -16,7 +16,7 @@ use Rattle.rows.specs.Events.{PlainEvent, insert, retraction, cti, plain_event, 
 use Rattle.rows.specs.Kinds.{Kind, Pair, in_range}
 use Rattle.rows.specs.Rows.{Plain}
 use Rattle.rows.specs.Spans.{Times}
-use Rattle.rows.specs.Times.{forever, finite, lawful, lawful_end}
+use Rattle.rows.specs.Times.{forever, finite, lawful}
 use Rattle.files.specs.declared.fields.EndField.{EndField}
 use Rattle.files.specs.declared.fields.EndField.TheVariants.{At, Forever}
 use Rattle.files.specs.declared.fields.RowFields.{RowFields}

@@ -1,6 +1,6 @@
 -- What a write to the table, with its entry in the lists, leaves of the rows.
 --     Good cs ids slots           the lists tell the rows in the cells: their ids, in rising order, and their slots
-use Rattle.std.specs.Prelude.{◌≡◌, ℕ, ◌<◌, true, false, ◌||◌, ◌≢◌, List, [], ◌∷◌, map, length, get_or, set, is_some, Some, None, Option, ◌==◌, nat_eq, slice_index_or, slice_set, refl}
+use Rattle.std.specs.Prelude.{◌≡◌, ℕ, ◌<◌, true, false, ◌||◌, ◌≢◌, List, [], ◌∷◌, map, length, get_or, is_some, Some, None, Option, ◌==◌, nat_eq, slice_index_or, slice_set, refl}
 use Rattle.std.proofs.Common.{arith, sym, ap, subst, ◌∙◌, ⊎_elim}
 use Rattle.std.proofs.lemmas.List.{get_or-set_same, get_or-set_other, get_or-map, get_or_past, length-map}
 use Rattle.std.proofs.lemmas.Bool.{cond_both, eqb-true, eq-eqb, ne_eqb, or_from, cases_eq, cases_lt, cases_Bool, both_ways, false≢true}

@@ -1,13 +1,12 @@
 -- One event more of a source. Assumes nothing.
 use Rattle.std.proofs.Common.{◌≡◌, ℕ, List, [], ◌∷◌, ◌++◌, sym, refl, ap, ◌∙◌, arith}
-use Rattle.std.proofs.lemmas.List.{append_assoc}
 use Rattle.refusals.specs.declared.ending.Ending.{Ending}
 use Rattle.receipts.specs.Histories.{Entry, events}
 use Rattle.rewriting.specs.Streams.{Stream}
 use Rattle.rows.specs.declared.event.Event.{Event}
 use Rattle.rows.specs.Events.{PlainEvent, plain_event}
 use Rattle.rows.specs.Kinds.{Pair}
-use Rattle.sources.specs.Taking.{next, ended, first_of, next_in, behind, rest_of}
+use Rattle.sources.specs.Taking.{next, first_of, next_in, behind, rest_of}
 use Rattle.packing.specs.Collecting.{plains}
 
 first_is : (n : ℕ) (e : PlainEvent) (xs : List Entry) (w : Ending) → next n e ≡ first_of xs w → events xs ≡ e ∷ events (behind xs)

@@ -11,11 +11,10 @@ use Rattle.refusals.specs.Faults.{bare_fault}
 use Rattle.receipts.specs.declared.line.Line.{Line}
 use Rattle.receipts.specs.declared.window.Window.{Window}
 use Rattle.receipts.specs.Histories.{Entry}
-use Rattle.receipts.specs.Queries.{Setup, QueryState, may_close, closing_lines, closing_window, closed_once, Answer, closed, refused, Called, keeps, closing, called}
+use Rattle.receipts.specs.Queries.{Setup, QueryState, may_close, closing_lines, closing_window, closed_once, closed, refused, Called, keeps, closing, called}
 use Rattle.receipts.specs.Sides.{Both}
 use Rattle.query.specs.Answers.{answers, closing_told}
-use Rattle.run_laws.specs.Runs.{Places, RunState, Turn, goes_on, stops, closed_in, closings}
-use Rattle.run.specs.declared.closing.Written.{Written}
+use Rattle.run_laws.specs.Runs.{Places, RunState, goes_on, stops, closed_in, closings}
 use Rattle.run.specs.States.{places, standing}
 use Rattle.run.specs.Closings.{closing_told_from}
 

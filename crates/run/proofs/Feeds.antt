@@ -1,7 +1,7 @@
 -- A turn of a side is the model's.
 --     after_step s p side x r     the model's turn once r came of a side's turn and left the state x
 --     Brings r es                 the step r comes of the entries es
-use Rattle.std.proofs.Common.{◌≡◌, ℕ, ◌+◌, ◌-◌, Bool, true, false, cond, List, [], ◌∷◌, length, Ok, Err, Result, sym, refl, ap, ◌∙◌, subst, add-one}
+use Rattle.std.proofs.Common.{◌≡◌, ℕ, ◌+◌, ◌-◌, Bool, true, false, List, [], ◌∷◌, length, Ok, Err, Result, sym, refl, ap, ◌∙◌, subst, add-one}
 use Rattle.std.proofs.lemmas.Bool.{true≢false}
 use Rattle.refusals.specs.declared.ending.Ending.{Ending}
 use Rattle.refusals.specs.declared.ending.Ending.TheVariants as ending
@@ -13,8 +13,8 @@ use Rattle.rows.specs.Events.{PlainEvent, insert, retraction, cti}
 use Rattle.receipts.specs.declared.line.Line.{Line}
 use Rattle.receipts.specs.declared.window.Window.{Window}
 use Rattle.receipts.specs.Histories.{Entry}
-use Rattle.receipts.specs.Queries.{Setup, Half, QueryState, event, Answer, accepted, closed, told, refused, Called, event_refused, event_answer, called}
-use Rattle.receipts.specs.Sides.{Both, pick, put, mapped}
+use Rattle.receipts.specs.Queries.{Setup, Half, QueryState, event, Answer, accepted, closed, told, refused, event_refused, event_answer, called}
+use Rattle.receipts.specs.Sides.{Both, pick, put}
 use Rattle.receipts.specs.Stores.{Outcome}
 use Rattle.receipts.specs.Transcripts.{accepts}
 use Rattle.receipts.proofs.Calls.{event_cases}
@@ -24,7 +24,7 @@ use Rattle.run_laws.specs.Runs.{Places, RunState, Report, Turn, goes_on, stops, 
 use Rattle.sources.specs.Taking.{first_of, behind, rest_of}
 use Rattle.run.specs.declared.feeding.Step.{Step}
 use Rattle.run.specs.declared.feeding.Step.TheVariants as step
-use Rattle.run.specs.Steps.{shallow, is_cti, ending_step, answer_step, Fed, fed, stepped_by, stepped}
+use Rattle.run.specs.Steps.{is_cti, ending_step, answer_step, Fed, fed, stepped_by, stepped}
 use Rattle.run.specs.Turns.{entries_of, shallows, tails}
 
 abbrev pub after_step : Setup → Places → Side → RunState → Step → Turn

@@ -1,13 +1,11 @@
 -- The receipt promise holds of every query, and of every run of one.
-use Rattle.std.proofs.Common.{◌≡◌, ℕ, ◌<◌, true, leb, List, sym, refl, ◌∙◌, subst, arith}
+use Rattle.std.proofs.Common.{◌≡◌, ℕ, ◌<◌, true, leb, List, sym, refl, ◌∙◌, subst}
 use Rattle.std.proofs.lemmas.Bool.{leb-true, and_parts}
 use Rattle.refusals.specs.declared.ending.Ending.TheVariants.{End}
 use Rattle.refusals.specs.declared.fault.Side.{Side}
 use Rattle.refusals.specs.declared.fault.Side.TheVariants.{Left, Right}
 use Rattle.rows.specs.Kinds.{Kind}
 use Rattle.rows.specs.Rows.{Plain, standing, in_kind}
-use Rattle.receipts.specs.Histories.{Legal}
-use Rattle.receipts.specs.Joins.{Exactly}
 use Rattle.receipts.specs.Laws.{record_of}
 use Rattle.receipts.specs.Lists.{In}
 use Rattle.receipts.specs.Queries.{Setup, Call}

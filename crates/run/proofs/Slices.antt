@@ -1,7 +1,7 @@
 -- What is written into a slice from a place on, and what is kept behind the written places.
 use Rattle.std.proofs.Common.{◌≡◌, ℕ, ◌+◌, ◌-◌, ◌≤◌, List, [], ◌++◌, length, take, drop, sym, ap, ◌∙◌, subst, append-nil, arith, rules}
 use borrow.Rule.Slice.PartMut.{put_mid}
-use Rattle.std.proofs.lemmas.List.{drop_all, drop-drop, drop_at, take_at, length-take-le}
+use Rattle.std.proofs.lemmas.List.{drop-drop, drop_at, take_at, length-take-le}
 use Rattle.std.proofs.lemmas.Slice.{overwrites}
 use Rattle.run.specs.Closings.{Later}
 

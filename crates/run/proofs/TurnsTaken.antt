@@ -1,5 +1,5 @@
 -- A turn of the code is the model's turn, by what came of the side's step.
-use Rattle.std.proofs.Common.{◌≡◌, ℕ, ◌+◌, ◌-◌, ◌≤◌, Bool, true, false, ◌&&◌, List, length, take, Some, None, Option, sym, refl, ap, ◌∙◌, subst}
+use Rattle.std.proofs.Common.{◌≡◌, ℕ, ◌+◌, ◌-◌, ◌≤◌, true, false, ◌&&◌, List, length, take, Some, None, Option, sym, refl, ap, ◌∙◌, subst}
 use Rattle.std.proofs.lemmas.List.{length-take-le}
 use Rattle.refusals.specs.declared.fault.Fault.{Fault}
 use Rattle.refusals.specs.declared.fault.Side.{Side}
@@ -10,7 +10,7 @@ use Rattle.receipts.specs.Histories.{Entry}
 use Rattle.receipts.specs.Queries.{Setup, QueryState}
 use Rattle.receipts.specs.Sides.{Both, pick, put}
 use Rattle.rewriting.specs.Streams.{Stream}
-use Rattle.run_laws.specs.Runs.{Places, RunState, Report, closings, run_fault, take_from, next_side, turn, continued}
+use Rattle.run_laws.specs.Runs.{RunState, Report, closings, run_fault, take_from, next_side, turn, continued}
 use Rattle.run_laws.proofs.TurnsLeft.{turns_left, next_unended}
 use Rattle.sources.specs.Taking.{behind, rest_of}
 use Rattle.run.specs.declared.closing.Written.{Written}

@@ -11,7 +11,6 @@ use Rattle.refusals.specs.declared.ending.Ending.TheVariants as ending
 use Rattle.refusals.specs.declared.fault.Side.{Side}
 use Rattle.refusals.specs.Faults.{on_side}
 use Rattle.rows.specs.Events.{PlainEvent, insert, retraction, cti}
-use Rattle.receipts.specs.declared.window.Window.{Window}
 use Rattle.receipts.specs.Queries.{Setup, QueryState, event, Answer, accepted, closed, told, refused, Called, called}
 use Rattle.rewriting.specs.Streams.{Stream}
 use Rattle.run_laws.specs.Runs.{located}

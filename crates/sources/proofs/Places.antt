@@ -1,12 +1,12 @@
 -- Taking from a slice of events: at a place within it, and past its end.
-use Rattle.std.proofs.Common.{◌≡◌, ℕ, ◌+◌, ◌<◌, ◌≤◌, List, [], ◌∷◌, length, get_or, drop, sym, ◌∙◌}
+use Rattle.std.proofs.Common.{◌≡◌, ℕ, ◌+◌, ◌<◌, ◌≤◌, List, length, get_or, sym, ◌∙◌}
 use Rattle.std.proofs.lemmas.List.{at_drop_more, at_drop_all}
 use Rattle.refusals.specs.declared.ending.Ending.TheVariants.{End}
 use Rattle.rows.specs.declared.event.Event.{Event}
 use Rattle.rows.specs.Events.{plain_event}
 use Rattle.rows.specs.Kinds.{Pair}
 use Rattle.rewriting.specs.Streams.{Stream}
-use Rattle.sources.specs.Taking.{PlainTaken, next, ended, next_in, rest_of}
+use Rattle.sources.specs.Taking.{next, ended, next_in, rest_of}
 use Rattle.sources.specs.Listing.{numbered, listed_stream}
 
 -- the stream of what is left, the first under the number n

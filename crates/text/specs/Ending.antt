@@ -1,11 +1,10 @@
 -- A line takes at least one byte. Assumes nothing.
-use Rattle.std.specs.Prelude.{◌≡◌, ℕ, List, [], ◌∷◌, ◌++◌, Ok, Err, decimal, ◌==◌, refl}
+use Rattle.std.specs.Prelude.{◌≡◌, ℕ, List, [], ◌∷◌, Ok, decimal, ◌==◌}
 use Rattle.std.proofs.Common.{sym, ap, ◌∙◌, inl, inr, arith}
 use Rattle.std.proofs.lemmas.Bool.{cases_eq, cond-true, cond-false, eq-eqb, ne_eqb}
 use Rattle.std.proofs.lemmas.Fmt.{decimal_nonempty}
 use Rattle.decimals.specs.Decimals.{decimal_read}
 use Rattle.decimals.proofs.Exactness.{read_written}
-use Rattle.files.specs.declared.fields.EndField.{EndField}
 use Rattle.files.specs.declared.fields.EndField.TheVariants.{At, Forever}
 use Rattle.files.specs.declared.fields.Fields.{Fields}
 use Rattle.files.specs.Orders.{Part, bind, insert_by, retraction_by, cti_by}

@@ -6,7 +6,7 @@ use Rattle.refusals.specs.declared.refusal.Refusal.TheVariants.{TooLong}
 use Rattle.decimals.proofs.Exactness.{written_read, read_written}
 use Rattle.weighing.specs.declared.weighed.Weighed.{Weighed}
 use Rattle.weighing.specs.Lines.{weighed, with_rest, after_number, line_read}
-use Rattle.weighing.specs.Inputs.{Outcome, stopped, led, lines_in, lines_from, input_weighed}
+use Rattle.weighing.specs.Inputs.{Outcome, stopped, led, lines_in, lines_from}
 use Rattle.weighing.specs.Exact.{written_lines, all_readings, whole, InputExact}
 use Rattle.weighing.proofs.Read.{line_parts}
 use Rattle.weighing.proofs.Lines.{lines_more, lines_refused}

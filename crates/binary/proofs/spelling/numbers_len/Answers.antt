@@ -1,4 +1,4 @@
-use Rattle.std.proofs.Common.{◌≡◌, length, ap, arith}
+use Rattle.std.proofs.Common.{length, ap, arith}
 use Rattle.binary.proofs.Left.{numbers_len, numbers_none}
 use Rattle.binary.proofs.spelling.numbers_len.Goals as goal
 

@@ -1,4 +1,4 @@
-use Rattle.std.proofs.Common.{◌≡◌, length, sym, ap, ◌∙◌, arith}
+use Rattle.std.proofs.Common.{length, sym, ap, ◌∙◌, arith}
 use Rattle.groups.specs.Puts.{put_all}
 use Rattle.binary.proofs.Left.{numbers_len, numbers_none, put_numbers_more}
 use Rattle.binary.proofs.spelling.put_numbers.Goals as goal

@@ -1,4 +1,4 @@
-use Rattle.std.proofs.Common.{◌≡◌, length, sym, ap, ◌∙◌, arith}
+use Rattle.std.proofs.Common.{length, sym, ap, ◌∙◌, arith}
 use Rattle.groups.specs.Puts.{put_all}
 use Rattle.binary.proofs.Left.{events_len, events_none, put_events_more, small_more, small_all}
 use Rattle.binary.proofs.writer.put_events.Goals as goal

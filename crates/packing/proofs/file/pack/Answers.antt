@@ -1,4 +1,4 @@
-use Rattle.std.proofs.Common.{◌≡◌, sym, ◌∙◌}
+use Rattle.std.proofs.Common.{sym, ◌∙◌}
 use Rattle.packing.proofs.Listing.{from_slice, spells, packed_ok, packed_err}
 use Rattle.packing.proofs.file.pack.Goals as goal
 

@@ -1,4 +1,4 @@
-use Rattle.std.proofs.Common.{◌≡◌, ◌-◌, List, length, drop, ap, ◌∙◌, arith}
+use Rattle.std.proofs.Common.{List, length, drop, ap, ◌∙◌, arith}
 use Rattle.std.proofs.lemmas.Slice.{between_to_end}
 use Rattle.query.specs.Answers.{answers, lines_told}
 use Rattle.query.specs.Queries.{setup, state}

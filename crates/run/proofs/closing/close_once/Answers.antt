@@ -1,7 +1,5 @@
-use Rattle.std.proofs.Common.{◌≡◌, ℕ, ◌+◌, ◌≤◌, List, length, drop, refl, ap, subst, add-zero, arith, drop-set-lt}
+use Rattle.std.proofs.Common.{◌≡◌, ℕ, drop, refl, subst, add-zero, arith, drop-set-lt}
 use Rattle.query.specs.Queries.{setup, state}
-use Rattle.receipts.specs.declared.line.Line.{Line}
-use Rattle.receipts.specs.declared.window.Window.{Window}
 use Rattle.receipts.specs.Queries.{Setup, QueryState}
 use Rattle.run.proofs.CloseOnce.{windows_full, lines_full, closes_on, lines_within}
 use Rattle.run.proofs.closing.close_once.Goals as goal

@@ -1,6 +1,4 @@
 use Rattle.std.proofs.Common.{◌≡◌}
-use Rattle.receipts.specs.Sides.{Both}
-use Rattle.rewriting.specs.Streams.{Stream}
 use Rattle.joining.specs.Guards.{both}
 use Rattle.query.specs.Queries.{setup, state}
 use Rattle.run_laws.specs.Runs.{ran, turns}

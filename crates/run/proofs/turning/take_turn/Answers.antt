@@ -1,11 +1,10 @@
-use Rattle.std.proofs.Common.{◌≡◌, Some, None, refl, ap, ◌∙◌, arith}
+use Rattle.std.proofs.Common.{refl, ◌∙◌, arith}
 use Rattle.receipts.specs.Queries.{Setup, QueryState}
 use Rattle.receipts.specs.Sides.{Both}
 use Rattle.rewriting.specs.Streams.{Stream}
 use Rattle.joining.specs.Guards.{both}
 use Rattle.query.specs.Queries.{setup, state}
 use Rattle.run.specs.declared.feeding.Step.TheVariants as step
-use Rattle.run.specs.Turns.{blamed}
 use Rattle.run.proofs.TurnsTaken.{spends_any, ends_kept, step_turn, accepted_spent, ended_turn, ended_spent, advanced_spent, advanced_turn}
 use Rattle.run.proofs.turning.take_turn.Goals as goal
 

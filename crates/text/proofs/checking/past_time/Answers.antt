@@ -1,4 +1,4 @@
-use Rattle.std.proofs.Common.{◌≡◌, ◌<◌, length, sym, rules}
+use Rattle.std.proofs.Common.{◌<◌, length, sym, rules}
 use Rattle.std.proofs.lemmas.Slice.{first_rest}
 use Rattle.text.specs.Letters.{star_there}
 use Rattle.text.proofs.checking.past_time.Goals as goal

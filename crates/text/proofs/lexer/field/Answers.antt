@@ -1,4 +1,4 @@
-use Rattle.std.proofs.Common.{◌≡◌, ◌<◌, length, sym, ap, ◌∙◌, rules}
+use Rattle.std.proofs.Common.{◌<◌, length, sym, ap, ◌∙◌, rules}
 use Rattle.std.proofs.lemmas.Slice.{first_rest}
 use Rattle.text.specs.Lines.{field_at, past}
 use Rattle.text.proofs.lexer.field.Goals as goal

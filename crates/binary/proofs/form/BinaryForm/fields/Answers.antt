@@ -1,4 +1,4 @@
-use Rattle.std.proofs.Common.{◌≡◌, ◌<◌, length, sym, ◌∙◌, rules}
+use Rattle.std.proofs.Common.{◌<◌, length, sym, ◌∙◌, rules}
 use Rattle.std.proofs.lemmas.Slice.{first_rest}
 use Rattle.binary.specs.KindBytes.{insert_kind, retraction_kind, cti_kind}
 use Rattle.binary.proofs.form.BinaryForm.fields.Goals as goal

@@ -1,5 +1,4 @@
 use Rattle.std.proofs.Common.{arith}
-use Rattle.rows.specs.Events.{plain_event}
 use Rattle.files.proofs.Steps.{next_place, next_value, next_after, fault_value, fault_after, end_value, end_after}
 use Rattle.files.proofs.reader.taking.ReaderSource.take.Goals as goal
 
