@@ -4,7 +4,6 @@ use files::reader::Reader;
 use refusals::ending::Ending;
 use rows::payload::Payload;
 use sources::source::{Source, Taken};
-use std::process::Abort;
 
 pub fn told<F: Form, P: Payload>(bytes: &[u8]) -> (u8, u64) {
     let mut reader: Reader<F, P> = Reader::new(bytes);
@@ -22,34 +21,38 @@ pub fn told<F: Form, P: Payload>(bytes: &[u8]) -> (u8, u64) {
     (255, 0)
 }
 
-// The file cut at each byte.
-pub fn cut<F: Form, P: Payload>(rt: &impl Abort, bytes: &[u8], expected: &[(u8, u64)]) {
-    assert_eq!(rt; expected.len(), bytes.len() + 1);
+// Whether the file, cut at each byte, is read as expected.
+pub fn cut<F: Form, P: Payload>(bytes: &[u8], expected: &[(u8, u64)]) -> bool {
     let mut n = 0;
     for outcome in expected {
-        assert!(rt; n <= bytes.len());
-        assert_eq!(rt; told::<F, P>(&bytes[0..n]), *outcome);
+        if n > bytes.len() || told::<F, P>(&bytes[0..n]) != *outcome {
+            return false;
+        }
         n += 1;
     }
+    expected.len() == bytes.len() + 1
 }
 
-// Each byte of the file in turn replaced by each of the others.
+// Whether the file, with each byte in turn replaced by each of the others, is read as expected.
 pub fn replaced<F: Form, P: Payload>(
-    rt: &impl Abort,
     bytes: &mut [u8],
     others: &[u8],
     expected: &[(u8, u64)],
-) {
+) -> bool {
     let mut k = 0;
     for i in 0..bytes.len() {
         let kept = bytes[i];
         for other in others {
-            assert!(rt; k < expected.len());
+            if k >= expected.len() {
+                return false;
+            }
             bytes[i] = *other;
-            assert_eq!(rt; told::<F, P>(bytes), expected[k]);
+            if told::<F, P>(bytes) != expected[k] {
+                return false;
+            }
             k += 1;
         }
         bytes[i] = kept;
     }
-    assert_eq!(rt; k, expected.len());
+    k == expected.len()
 }

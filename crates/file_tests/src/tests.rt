@@ -16,16 +16,16 @@ use text::form::Text;
 
 #[test]
 fn cut_at_every_byte(rt: HostRuntime) {
-    cut::<Text, Reading>(&rt, &TEXT, &TEXT_CUT);
-    cut::<Binary, Reading>(&rt, &BINARY, &BINARY_CUT);
+    assert!(rt; cut::<Text, Reading>(&TEXT, &TEXT_CUT));
+    assert!(rt; cut::<Binary, Reading>(&BINARY, &BINARY_CUT));
 }
 
 #[test]
 fn each_byte_replaced(rt: HostRuntime) {
     let mut text = TEXT;
-    replaced::<Text, Reading>(&rt, &mut text, &TEXT_TELLING, &TEXT_REPLACED);
+    assert!(rt; replaced::<Text, Reading>(&mut text, &TEXT_TELLING, &TEXT_REPLACED));
     let mut binary = BINARY;
-    replaced::<Binary, Reading>(&rt, &mut binary, &BINARY_TELLING, &BINARY_REPLACED);
+    assert!(rt; replaced::<Binary, Reading>(&mut binary, &BINARY_TELLING, &BINARY_REPLACED));
 }
 
 #[test]
