@@ -4,6 +4,7 @@ ghost use Rattle.rows.specs.Rows.{plain, plain_of, row_made, made_row};
 
 use crate::payload::Payload;
 use crate::row::{PlainRow, Row};
+use crate::span::Span;
 use refusals::refusal::Refusal;
 
 impl<P: Payload> Row<P> {
@@ -16,6 +17,20 @@ impl<P: Payload> Row<P> {
             span: self.span,
             key: self.payload.key(),
             value: self.payload.value(),
+        }
+    }
+}
+
+// Zeros and the shortest span: what a list of rows with a fixed room holds where no row stands.
+impl Default for PlainRow {
+    ghost is_default = { λ r. plain r ≡ record { id = 0; start = 0; end = 1; key = 0; value = 0 } };
+
+    fn default() -> PlainRow {
+        PlainRow {
+            id: 0,
+            span: Span::default(),
+            key: 0,
+            value: 0,
         }
     }
 }

@@ -1,7 +1,7 @@
 // Making a span, and what a retraction leaves of one.
 ghost use Rattle.std.specs.Prelude.{◌≡◌, Bool};
 ghost use Rattle.rows.specs.Times.{finite, retractable};
-ghost use Rattle.rows.specs.Spans.{span_made, made_span, span_left, left_span};
+ghost use Rattle.rows.specs.Spans.{times, span_made, made_span, span_left, left_span};
 
 use crate::span::{FOREVER, LAST, Span};
 use refusals::refusal::Refusal;
@@ -57,5 +57,14 @@ impl Span {
             start: self.start,
             end: new_end,
         }))
+    }
+}
+
+// The span from 0 to 1.
+impl Default for Span {
+    ghost is_default = { λ s. times s ≡ record { start = 0; end = 1 } };
+
+    fn default() -> Span {
+        Span { start: 0, end: 1 }
     }
 }
