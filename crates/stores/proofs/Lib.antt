@@ -1,5 +1,5 @@
 pub mod Cursor
-pub mod Halves
+pub mod Parted
 pub mod Places
 pub mod Edits
 pub mod Order

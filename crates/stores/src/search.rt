@@ -6,7 +6,7 @@ ghost use Rattle.stores.specs.Places.{below};
 use rows::row::PlainRow;
 
 // What has an id.
-pub trait Identified: Copy {
+pub trait Identified {
     ghost number: { Self → ℕ };
 
     fn id(&self) -> u32
@@ -34,16 +34,5 @@ pub fn place_of<T: Identified>(items: &[T], id: u32) -> usize
     ensures within { result ≤ length items.now }
     ensures place { IsNonDecreasingBy T.Identified.number items.now → result ≡ below T.Identified.number id items.now }
 {
-    let mut low = 0;
-    let mut high = items.len();
-    while low < high {
-        let middle = low + (high - low) / 2;
-        let item = items[middle];
-        if item.id() < id {
-            low = middle + 1;
-        } else {
-            high = middle;
-        }
-    }
-    low
+    items.partition_point(|item| item.id() < id)
 }

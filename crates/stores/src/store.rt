@@ -24,6 +24,18 @@ pub trait Store: Sized {
 
     ghost rows: { Self → List Plain };
 
+    ghost some: { 1 ≤ capacity };
+
+    ghost few: { capacity ≤ 65536 };
+
+    ghost within: { (s : Self) → length (rows s) ≤ capacity };
+
+    ghost rising: { (s : Self) → Rising (rows s) };
+
+    ghost numbered: { (s : Self) → Numbered (rows s) };
+
+    ghost standing: { (s : Self) → Standing (rows s) };
+
     // An empty store.
     fn new() -> Self
         ensures { rows result ≡ [] };
@@ -50,15 +62,7 @@ pub trait Store: Sized {
     {
         let mut from = 0;
         for _passed in 0..place {
-            match self.first_from(from) {
-                None => return None,
-                Some(row) => {
-                    if row.id == u32::MAX {
-                        return None;
-                    }
-                    from = row.id + 1;
-                }
-            }
+            from = self.first_from(from)?.id.checked_add(1)?;
         }
         self.first_from(from)
     }
@@ -79,16 +83,4 @@ pub trait Store: Sized {
     fn purge(&mut self, below: u32) -> Purged
         ensures count { result.count ≡ gone below (rows self.old) }
         ensures after { rows self.new ≡ kept below (rows self.old) };
-
-    ghost some: { 1 ≤ capacity };
-
-    ghost few: { capacity ≤ 65536 };
-
-    ghost within: { (s : Self) → length (rows s) ≤ capacity };
-
-    ghost rising: { (s : Self) → Rising (rows s) };
-
-    ghost numbered: { (s : Self) → Numbered (rows s) };
-
-    ghost standing: { (s : Self) → Standing (rows s) };
 }

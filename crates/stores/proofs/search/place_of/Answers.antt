@@ -1,18 +1,11 @@
-use Rattle.std.proofs.Common.{arith}
-use Rattle.stores.proofs.Halves.{halving_up, halving_down, halving_all}
+use Rattle.std.proofs.Common.{ltb, rules}
+use Rattle.std.proofs.lemmas.List.Sorted.{IsPartitionPoint-from_clause, IsPartitionedBy-ltb}
+use Rattle.stores.proofs.Parted.{below_parted}
 use Rattle.stores.proofs.search.place_of.Goals as goal
 
-pub loop-low-preserved-then-id : goal.loop-low-preserved-then-id
-loop-low-preserved-then-id g c =
-    halving_up _ _ _ _ _ _ c.loop-low.invariant (omega arith) (omega arith) _ c.index-items-middle.is (omega (arith, c.id.ensures, c.if-id.true))
-
-pub loop-low-preserved : goal.loop-low-preserved
-loop-low-preserved g c =
-    halving_down _ _ _ _ _ _ c.loop-low.invariant (omega arith) (omega arith) _ c.index-items-middle.is (omega (arith, c.id.ensures, c.if-id.false))
-
-pub returns : goal.returns
-returns g c =
-    record {
-      within = omega (arith, c.loop-low.invariant.order, c.loop-low.invariant.within);
-      place = halving_all _ _ _ _ _ c.loop-low.invariant c.loop-low-test.false;
-    }
+pub returns-clause-place : goal.returns-clause-place
+returns-clause-place g c =
+    let number = g.T.Identified.number in
+    λ up. below_parted number c.args.id _ c.args.items.now c.partition_point.ensures.bound
+    (IsPartitionPoint-from_clause (λ x. ltb (number x) c.args.id) c.args.items.now _ c.partition_point.ensures.partitioned
+    (IsPartitionedBy-ltb number c.args.items.now c.args.id up) (λ a r f' called. search rules))
