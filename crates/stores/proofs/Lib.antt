@@ -8,3 +8,4 @@ pub mod Outcomes
 pub mod Plains
 pub mod Spans
 pub mod Shifts
+pub mod Walks
