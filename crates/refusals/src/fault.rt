@@ -43,11 +43,9 @@ impl Fault {
         ensures { result ≡ event_fault refusal depth event }
     {
         Fault {
-            refusal,
-            side: None,
             depth: Some(depth),
             event: Some(event),
-            cti: None,
+            ..Fault::bare(refusal)
         }
     }
 
@@ -56,11 +54,8 @@ impl Fault {
         ensures { result ≡ on_side side self }
     {
         Fault {
-            refusal: self.refusal,
             side: Some(side),
-            depth: self.depth,
-            event: self.event,
-            cti: self.cti,
+            ..self
         }
     }
 
@@ -69,11 +64,17 @@ impl Fault {
         ensures { result ≡ at_cti cti self }
     {
         Fault {
-            refusal: self.refusal,
-            side: self.side,
-            depth: self.depth,
-            event: self.event,
             cti: Some(cti),
+            ..self
         }
+    }
+}
+
+// A refusal that nothing more is known of.
+impl From<Refusal> for Fault {
+    ghost from_gives = { λ refusal fault. fault ≡ bare_fault refusal };
+
+    fn from(refusal: Refusal) -> Fault {
+        Fault::bare(refusal)
     }
 }

@@ -6,24 +6,24 @@ pub mod worded;
 
 #[derive(Clone, Copy, PartialEq, Eq, Debug)]
 pub enum Refusal {
-    TooLong,
-    CutOff,
-    BadByte,
-    BadNumber,
-    BadPayload,
-    BadTime,
-    OutOfTime,
-    CtiViolated,
-    IdInUse,
-    NoSuchRow,
-    OtherRow,
-    StoreFull,
-    NotYet,
-    WindowsFull,
-    LinesFull,
-    BadWidth,
-    BadRule,
-    OutFull,
+    TooLong = 1,
+    CutOff = 2,
+    BadByte = 3,
+    BadNumber = 4,
+    BadPayload = 5,
+    BadTime = 6,
+    OutOfTime = 7,
+    CtiViolated = 8,
+    IdInUse = 9,
+    NoSuchRow = 10,
+    OtherRow = 11,
+    StoreFull = 12,
+    NotYet = 13,
+    WindowsFull = 14,
+    LinesFull = 15,
+    BadWidth = 16,
+    BadRule = 17,
+    OutFull = 18,
 }
 
 impl Refusal {
@@ -31,25 +31,6 @@ impl Refusal {
     pub fn number(self) -> u8
         ensures { result ≡ number_of self }
     {
-        match self {
-            Refusal::TooLong => 1,
-            Refusal::CutOff => 2,
-            Refusal::BadByte => 3,
-            Refusal::BadNumber => 4,
-            Refusal::BadPayload => 5,
-            Refusal::BadTime => 6,
-            Refusal::OutOfTime => 7,
-            Refusal::CtiViolated => 8,
-            Refusal::IdInUse => 9,
-            Refusal::NoSuchRow => 10,
-            Refusal::OtherRow => 11,
-            Refusal::StoreFull => 12,
-            Refusal::NotYet => 13,
-            Refusal::WindowsFull => 14,
-            Refusal::LinesFull => 15,
-            Refusal::BadWidth => 16,
-            Refusal::BadRule => 17,
-            Refusal::OutFull => 18,
-        }
+        self as u8
     }
 }

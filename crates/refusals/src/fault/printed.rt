@@ -1,48 +1,34 @@
 // A fault as programs print it.
-ghost use Rattle.std.specs.Prelude.{◌≡◌, Some, None};
-ghost use Rattle.refusals.specs.Printed.{fault_line, side_text, field_text};
+ghost use Rattle.std.specs.Prelude.{Some};
+ghost use Rattle.refusals.specs.Printed.{fault_line, letter, field_told};
 
 use crate::fault::{Fault, Side};
 use std::fmt;
 
+// A side as one letter.
+impl fmt::Display for Side {
+    ghost output = { λ x. Some (letter x) };
+
+    fn fmt<W: fmt::Write>(&self, f: &mut fmt::Formatter<W>) -> fmt::Result {
+        match self {
+            Side::Left => write!(f, "L"),
+            Side::Right => write!(f, "R"),
+        }
+    }
+}
+
 // A field of a fault, `-` where it is absent.
 #[derive(Clone, Copy)]
-struct Field(Option<u64>);
+struct Field<T>(Option<T>);
 
-impl fmt::Display for Field {
-    ghost output = { λ x. Some (field_text x.0) };
-
-    fn fmt<W: fmt::Write>(&self, f: &mut fmt::Formatter<W>) -> fmt::Result {
-        match self.0 {
-            Some(number) => write!(f, "{number}"),
-            None => write!(f, "-"),
-        }
-    }
-}
-
-// A side as one letter, `-` where there is none.
-#[derive(Clone, Copy)]
-struct SideLetter(Option<Side>);
-
-impl fmt::Display for SideLetter {
-    ghost output = { λ x. Some (side_text x.0) };
+impl<T: fmt::Display> fmt::Display for Field<T> {
+    ghost output = { λ x. field_told T.output x.0 };
 
     fn fmt<W: fmt::Write>(&self, f: &mut fmt::Formatter<W>) -> fmt::Result {
-        match self.0 {
-            Some(Side::Left) => write!(f, "L"),
-            Some(Side::Right) => write!(f, "R"),
+        match &self.0 {
+            Some(field) => write!(f, "{field}"),
             None => write!(f, "-"),
         }
-    }
-}
-
-// A field of 32 bits as one of 64.
-fn wide(field: Option<u32>) -> Option<u64>
-    ensures { result ≡ field }
-{
-    match field {
-        Some(number) => Some(u64::from(number)),
-        None => None,
     }
 }
 
@@ -51,10 +37,10 @@ impl fmt::Display for Fault {
 
     fn fmt<W: fmt::Write>(&self, f: &mut fmt::Formatter<W>) -> fmt::Result {
         let number = self.refusal.number();
-        let side = SideLetter(self.side);
-        let depth = Field(wide(self.depth));
+        let side = Field(self.side);
+        let depth = Field(self.depth);
         let event = Field(self.event);
-        let cti = Field(wide(self.cti));
+        let cti = Field(self.cti);
         write!(f, "F {number} {side} {depth} {event} {cti}")
     }
 }
