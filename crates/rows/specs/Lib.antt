@@ -3,3 +3,4 @@ pub mod Spans
 pub mod Kinds
 pub mod Rows
 pub mod Events
+pub mod Printed

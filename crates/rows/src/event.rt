@@ -2,6 +2,7 @@
 use crate::row::Row;
 
 pub mod judging;
+pub mod printed;
 
 // An insert brings a row; a retraction repeats a row's fields and gives it a new end; a CTI says that nothing older
 // than its time will come.

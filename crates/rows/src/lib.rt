@@ -5,3 +5,4 @@ pub mod event;
 pub mod payload;
 pub mod row;
 pub mod span;
+pub mod starred;

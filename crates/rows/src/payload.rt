@@ -38,6 +38,7 @@ pub trait Payload: Copy {
     fn make(key: u32, value: u32) -> Result<Self, Refusal>
         ensures { made_pair pair result ≡ pair_made kind key value };
 
+    // The laws. A ghost member is a law only below the methods.
     ghost topped: { kind.top ≤ 65535 };
 
     ghost ordered: { (key value : ℕ) → in_range kind key value ≡ true → kind.least key value ≤ kind.most key value };
