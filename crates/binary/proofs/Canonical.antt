@@ -1,7 +1,6 @@
 -- The bytes that are written for some events are read as them, and no other bytes are. Assumes nothing.
-use Rattle.std.proofs.Common.{◌≡◌, ℕ, ◌+◌, ◌≤◌, true, ltb, List, [], ◌∷◌, ◌++◌, length, sym, refl, ap, ◌∙◌, inl, inr, arith}
+use Rattle.std.proofs.Common.{◌≡◌, ℕ, ◌+◌, ◌≤◌, true, ltb, List, [], ◌∷◌, ◌++◌, length, sym, refl, ap, ◌∙◌, inl, inr, arith, Ok, Err}
 use Rattle.std.proofs.lemmas.Bool.{and_parts, cases_lt, cond-true, lt-ltb}
-use Rattle.refusals.specs.declared.ending.Ending.TheVariants.{End, Failed}
 use Rattle.refusals.specs.declared.refusal.Refusal.TheVariants.{TooLong}
 use Rattle.refusals.specs.Faults.{event_fault}
 use Rattle.receipts.specs.Histories.{Entry}
@@ -42,7 +41,7 @@ module _ {P : Type 0} (pair : P → Pair) (k : Kind) (ranged : (x : P) → in_ra
       one binary_read k (event_bytes (plain_event pair e) ++ rest) ≡ event (plain_event pair e) rest
   one_back e rest t s = ap (one_of k) (event_back (plain_event pair e) rest s) ∙ ap (before rest) (fields_judged k (plain_event pair e) (fits e) t)
 
-  course_back : (es : List (Event P)) (n : ℕ) → all_timely pair es ≡ true → AllSmall pair es → course (one binary_read k) n (file_bytes pair es) ≡ (numbered pair n es, End)
+  course_back : (es : List (Event P)) (n : ℕ) → all_timely pair es ≡ true → AllSmall pair es → course (one binary_read k) n (file_bytes pair es) ≡ (numbered pair n es, Ok tt)
   course_back [] n t s = refl
   course_back (e ∷ es) n t s =
       let p = and_parts (timely (plain_event pair e)) (all_timely pair es) t in
@@ -56,7 +55,7 @@ none_some : {A : Type 0} (x : Entry) (xs : List Entry) → [] ≡ x ∷ xs → A
 none_some x xs e = absurd (let z : ◌≡◌ {A = ℕ} 0 1 = cc in omega arith)
 
 module _ {P : Type 0} (pair : P → Pair) (k : Kind) where
-  course_only : (es : List (Event P)) (n : ℕ) (bs : List ℕ) → Bytes bs → course (one binary_read k) n bs ≡ (numbered pair n es, End) → bs ≡ file_bytes pair es
+  course_only : (es : List (Event P)) (n : ℕ) (bs : List ℕ) → Bytes bs → course (one binary_read k) n bs ≡ (numbered pair n es, Ok tt) → bs ≡ file_bytes pair es
   course_only [] n bs b h =
       elim (one_standing binary_read k bs) [
         | inl z ↦ z
@@ -64,18 +63,18 @@ module _ {P : Type 0} (pair : P → Pair) (k : Kind) where
             none_some (n, p.0) (course (one binary_read k) (n + 1) p.1).0
             (sym (ap (λ c. c.0) (sym (one_step binary_read binary_ends k n bs p.1 p.0 p.2) ∙ h)))
         | inr (inr q) ↦
-            let f : Failed (event_fault q.0 0 n) ≡ End = ap (λ c. c.1) (sym (course_fault (one binary_read k) n bs q.0 q.2 q.1) ∙ h) in
+            let f : Err (event_fault q.0 0 n) ≡ Ok tt = ap (λ c. c.1) (sym (course_fault (one binary_read k) n bs q.0 q.2 q.1) ∙ h) in
             absurd (let z : ◌≡◌ {A = ℕ} 0 1 = cc in omega arith)
       ]
   course_only (x ∷ es) n bs b h =
       elim (one_standing binary_read k bs) [
         | inl z ↦ none_some (n, plain_event pair x) (numbered pair (n + 1) es) (ap (λ c. c.0) (sym (ap (course (one binary_read k) n) z) ∙ h))
         | inr (inl p) ↦
-            let g : gives n p.0 (course (one binary_read k) (n + 1) p.1) ≡ (numbered pair n (x ∷ es), End) = sym (one_step binary_read binary_ends k n bs p.1 p.0 p.2) ∙ h in
+            let g : gives n p.0 (course (one binary_read k) (n + 1) p.1) ≡ (numbered pair n (x ∷ es), Ok tt) = sym (one_step binary_read binary_ends k n bs p.1 p.0 p.2) ∙ h in
             let f = first_same (n, p.0) (n, plain_event pair x) (course (one binary_read k) (n + 1) p.1).0 (numbered pair (n + 1) es) (ap (λ c. c.0) g) in
             let e : p.0 ≡ plain_event pair x = ap (λ z. z.1) f.0 in
             let s = one_spelt k bs p.1 p.0 b p.2 in
-            let left : course (one binary_read k) (n + 1) p.1 ≡ (numbered pair (n + 1) es, End) = ap (λ zs. (zs, (course (one binary_read k) (n + 1) p.1).1)) f.1 ∙ ap (λ w. (numbered pair (n + 1) es, w)) (ap (λ c. c.1) g) in
+            let left : course (one binary_read k) (n + 1) p.1 ≡ (numbered pair (n + 1) es, Ok tt) = ap (λ zs. (zs, (course (one binary_read k) (n + 1) p.1).1)) f.1 ∙ ap (λ w. (numbered pair (n + 1) es, w)) (ap (λ c. c.1) g) in
             s.0 ∙ ap (λ y. event_bytes y ++ p.1) e ∙ ap (λ zs. event_bytes (plain_event pair x) ++ zs) (course_only es (n + 1) p.1 s.1 left)
         | inr (inr q) ↦
             none_some (n, plain_event pair x) (numbered pair (n + 1) es)
@@ -86,12 +85,12 @@ module _ {P : Type 0} (pair : P → Pair) (k : Kind) where
   file_only es bs b h =
       elim (cases_lt 65536 (length bs)) [
         | inl long ↦
-            let f : Failed (event_fault TooLong 0 1) ≡ End = sym (ap (λ (c : Course). c.1) (cond-true (ltb 65536 (length bs)) _ _ (lt-ltb 65536 (length bs) long))) ∙ ap (λ src. src.ending) h in
+            let f : Err (event_fault TooLong 0 1) ≡ Ok tt = sym (ap (λ (c : Course). c.1) (cond-true (ltb 65536 (length bs)) _ _ (lt-ltb 65536 (length bs) long))) ∙ ap (λ src. src.ending) h in
             absurd (let z : ◌≡◌ {A = ℕ} 0 1 = cc in omega arith)
         | inr short ↦
             let s = file_short binary_read k bs short in
             let xs : (course (one binary_read k) 1 bs).0 ≡ numbered pair 1 es = sym (ap (λ (c : Course). c.0) s) ∙ ap (λ src. src.entries) h in
-            let w : (course (one binary_read k) 1 bs).1 ≡ End = sym (ap (λ (c : Course). c.1) s) ∙ ap (λ src. src.ending) h in
+            let w : (course (one binary_read k) 1 bs).1 ≡ Ok tt = sym (ap (λ (c : Course). c.1) s) ∙ ap (λ src. src.ending) h in
             course_only es 1 bs b (ap (λ zs. (zs, (course (one binary_read k) 1 bs).1)) xs ∙ ap (λ v. (numbered pair 1 es, v)) w)
       ]
 

@@ -1,21 +1,17 @@
 // What a file is read as: (0, how many events) at END, else (refusal, event).
 use files::form::Form;
 use files::reader::Reader;
-use refusals::ending::Ending;
 use rows::payload::Payload;
-use sources::source::{Source, Taken};
+use sources::source::{Numbered, Source};
 
 pub fn told<F: Form, P: Payload>(bytes: &[u8]) -> (u8, u64) {
     let mut reader: Reader<F, P> = Reader::new(bytes);
     let mut last = 0;
     for _ in 0..=bytes.len() {
         match reader.take() {
-            Taken::Next { number, .. } => last = number,
-            Taken::Ended(Ending::End) => return (0, last),
-            Taken::Ended(Ending::Failed(fault)) => return (
-                fault.refusal.number(),
-                fault.event.unwrap_or(0),
-            ),
+            Ok(Some(Numbered { number, .. })) => last = number,
+            Ok(None) => return (0, last),
+            Err(fault) => return (fault.refusal.number(), fault.event.unwrap_or(0)),
         }
     }
     (255, 0)

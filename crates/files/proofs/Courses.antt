@@ -1,7 +1,6 @@
 -- The course of some bytes, one event at a time. Assumes nothing.
-use Rattle.std.proofs.Common.{◌≡◌, ℕ, zero, suc, ◌+◌, ◌<◌, ◌≤◌, true, ltb, List, [], ◌∷◌, length, sym, refl, ap, ◌∙◌, arith}
+use Rattle.std.proofs.Common.{◌≡◌, ℕ, zero, suc, ◌+◌, ◌<◌, ◌≤◌, true, ltb, List, [], ◌∷◌, length, sym, refl, ap, ◌∙◌, arith, Ok, Err}
 use Rattle.std.proofs.lemmas.Bool.{cond_both, cond-false, le-ltb}
-use Rattle.refusals.specs.declared.ending.Ending.TheVariants.{End, Failed}
 use Rattle.refusals.specs.declared.refusal.Refusal.{Refusal}
 use Rattle.refusals.specs.declared.refusal.Refusal.TheVariants.{TooLong}
 use Rattle.refusals.specs.Faults.{event_fault}
@@ -34,11 +33,11 @@ module _ (one : List ℕ → One) (none : one [] ≡ nothing) (shorter : (bs res
       let s = shorter (b ∷ bs) rest e h in
       ap (λ o. proceed n o (course_up_to one (length bs) (n + 1))) h ∙ ap (gives n e) (enough (length bs) (length rest) (n + 1) rest (omega arith) (omega arith))
 
-pub course_fault : (one : List ℕ → One) (n : ℕ) (bs : List ℕ) (r : Refusal) → 0 < length bs → one bs ≡ fault r → course one n bs ≡ ends (Failed (event_fault r 0 n))
+pub course_fault : (one : List ℕ → One) (n : ℕ) (bs : List ℕ) (r : Refusal) → 0 < length bs → one bs ≡ fault r → course one n bs ≡ ends (Err (event_fault r 0 n))
 course_fault one n [] r l h = absurd (omega arith)
 course_fault one n (b ∷ bs) r l h = ap (λ o. proceed n o (course_up_to one (length bs) (n + 1))) h
 
-pub course_end : (one : List ℕ → One) (n : ℕ) (bs : List ℕ) → length bs ≤ 0 → course one n bs ≡ ends End
+pub course_end : (one : List ℕ → One) (n : ℕ) (bs : List ℕ) → length bs ≤ 0 → course one n bs ≡ ends (Ok tt)
 course_end one n [] l = refl
 course_end one n (b ∷ bs) l = absurd (omega arith)
 
@@ -64,13 +63,13 @@ up_to_sound read k (suc f) n bs = go (one read k bs) (up_to_sound read k f (n + 
 
 pub file_told : (read : Reads) (k : Kind) (bs : List ℕ) → Told 1 (file_stream read k bs)
 file_told read k bs =
-    cond_both (ltb 65536 (length bs)) (ends (Failed (event_fault TooLong 0 1))) (course (one read k) 1 bs) (λ c. Told 1 (stream_of c))
+    cond_both (ltb 65536 (length bs)) (ends (Err (event_fault TooLong 0 1))) (course (one read k) 1 bs) (λ c. Told 1 (stream_of c))
     (λ e. (TooLong, refl))
     (λ e. up_to_told (one read k) (length bs) 1 bs)
 
 pub file_sound : (read : Reads) (k : Kind) (bs : List ℕ) → Sound k (file_stream read k bs)
 file_sound read k bs =
-    cond_both (ltb 65536 (length bs)) (ends (Failed (event_fault TooLong 0 1))) (course (one read k) 1 bs) (λ c. Sound k (stream_of c))
+    cond_both (ltb 65536 (length bs)) (ends (Err (event_fault TooLong 0 1))) (course (one read k) 1 bs) (λ c. Sound k (stream_of c))
     (λ e. tt)
     (λ e. up_to_sound read k (length bs) 1 bs)
 

@@ -1,7 +1,6 @@
 -- What one take does, over the fields of a reader. Assumes nothing.
-use Rattle.std.proofs.Common.{◌≡◌, ℕ, ◌+◌, ◌-◌, ◌<◌, ◌≤◌, List, length, drop, Ok, sym, refl, ap, ◌∙◌, arith}
+use Rattle.std.proofs.Common.{◌≡◌, ℕ, ◌+◌, ◌-◌, ◌<◌, ◌≤◌, List, length, drop, Ok, sym, refl, ap, ◌∙◌, arith, Err}
 use Rattle.std.proofs.lemmas.List.{length-drop}
-use Rattle.refusals.specs.declared.ending.Ending.TheVariants.{End, Failed}
 use Rattle.refusals.specs.declared.fault.Fault.{Fault}
 use Rattle.refusals.specs.declared.refusal.Refusal.{Refusal}
 use Rattle.refusals.specs.Faults.{event_fault}
@@ -51,21 +50,21 @@ module _ (read : Reads) (short : (bs rest : List ℕ) (f : Fields) → read bs �
             ∙ sym (ap (λ c. rest_of (stream_of c)) step_is)
 
       module _ (why : Refusal) (reads : fault why ≡ one_of k (read left)) (f : Fault) (names : f ≡ event_fault why 0 number) where
-        fault_is : reader_course read k state number (drop place bytes) ≡ ends (Failed f)
-        fault_is = course_is ∙ course_fault (one read k) number (drop place bytes) why some_left (one_is ∙ sym reads) ∙ ap (λ x. ends (Failed x)) (sym names)
+        fault_is : reader_course read k state number (drop place bytes) ≡ ends (Err f)
+        fault_is = course_is ∙ course_fault (one read k) number (drop place bytes) why some_left (one_is ∙ sym reads) ∙ ap (λ x. ends (Err x)) (sym names)
 
-        pub fault_value : ended (Failed f) ≡ next_in (reader_stream read k state number (drop place bytes))
+        pub fault_value : ended (Err f) ≡ next_in (reader_stream read k state number (drop place bytes))
         fault_value = sym (ap (λ c. next_in (stream_of c)) fault_is)
 
-        pub fault_after : stream_of (ends (Failed f)) ≡ rest_of (reader_stream read k state number (drop place bytes))
+        pub fault_after : stream_of (ends (Err f)) ≡ rest_of (reader_stream read k state number (drop place bytes))
         fault_after = sym (ap (λ c. rest_of (stream_of c)) fault_is)
 
     module _ (over : length bytes ≤ place) where
-      end_is : reader_course read k state number (drop place bytes) ≡ ends End
+      end_is : reader_course read k state number (drop place bytes) ≡ ends (Ok tt)
       end_is = course_is ∙ course_end (one read k) number (drop place bytes) (simp length-drop (omega arith))
 
-      pub end_value : ended End ≡ next_in (reader_stream read k state number (drop place bytes))
+      pub end_value : ended (Ok tt) ≡ next_in (reader_stream read k state number (drop place bytes))
       end_value = sym (ap (λ c. next_in (stream_of c)) end_is)
 
-      pub end_after : stream_of (ends End) ≡ rest_of (reader_stream read k state number (drop place bytes))
+      pub end_after : stream_of (ends (Ok tt)) ≡ rest_of (reader_stream read k state number (drop place bytes))
       end_after = sym (ap (λ c. rest_of (stream_of c)) end_is)

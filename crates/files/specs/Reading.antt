@@ -15,11 +15,9 @@
 --     Told n src              the events of src are numbered n, n + 1, .., and a fault is told at the number after the last
 use Rattle.std.specs.Prelude.{◌≡◌, ℕ, zero, suc, ◌+◌, ◌<◌, true, cond, List, [], ◌∷◌, ◌++◌, length, Ok, Err, Result, nat_lt}
 use Rattle.std.specs.Borrow.{Bor}
-use Rattle.refusals.specs.declared.ending.Ending.{Ending}
-use Rattle.refusals.specs.declared.ending.Ending.TheVariants.{End, Failed}
 use Rattle.refusals.specs.declared.refusal.Refusal.{Refusal}
 use Rattle.refusals.specs.declared.refusal.Refusal.TheVariants.{TooLong}
-use Rattle.refusals.specs.Faults.{event_fault}
+use Rattle.refusals.specs.Faults.{event_fault, Ending}
 use Rattle.rows.specs.declared.event.Event.{Event}
 use Rattle.rows.specs.Events.{PlainEvent, plain_event, timely}
 use Rattle.rows.specs.Kinds.{Kind, Pair}
@@ -66,13 +64,13 @@ abbrev pub gives : ℕ → PlainEvent → Course → Course
 gives n e c = ((n, e) ∷ c.0, c.1)
 
 abbrev pub proceed : ℕ → One → (List ℕ → Course) → Course
-proceed n nothing go = ends End
+proceed n nothing go = ends (Ok tt)
 proceed n (event e rest) go = gives n e (go rest)
-proceed n (fault r) go = ends (Failed (event_fault r 0 n))
+proceed n (fault r) go = ends (Err (event_fault r 0 n))
 
 -- as far as f events
 abbrev pub course_up_to : (List ℕ → One) → ℕ → ℕ → List ℕ → Course
-course_up_to one zero n bs = ends End
+course_up_to one zero n bs = ends (Ok tt)
 course_up_to one (suc f) n bs = proceed n (one bs) (course_up_to one f (n + 1))
 
 -- each event has a byte, so there are no more events than bytes
@@ -80,7 +78,7 @@ abbrev pub course : (List ℕ → One) → ℕ → List ℕ → Course
 course one n bs = course_up_to one (length bs) n bs
 
 abbrev pub file_course : Reads → Kind → List ℕ → Course
-file_course read k bs = cond (nat_lt 65536 (length bs)) (ends (Failed (event_fault TooLong 0 1))) (course (one read k) 1 bs)
+file_course read k bs = cond (nat_lt 65536 (length bs)) (ends (Err (event_fault TooLong 0 1))) (course (one read k) 1 bs)
 
 abbrev pub stream_of : Course → Stream
 stream_of c = record { entries = c.0; ending = c.1; depth = 0 }
@@ -89,8 +87,8 @@ abbrev pub file_stream : Reads → Kind → List ℕ → Stream
 file_stream read k bs = stream_of (file_course read k bs)
 
 abbrev pub ToldEnding : ℕ → Ending → Type 0
-ToldEnding n End = Unit {0}
-ToldEnding n (Failed f) = (why : Refusal) × (f ≡ event_fault why 0 n)
+ToldEnding n (Ok tt) = Unit {0}
+ToldEnding n (Err f) = (why : Refusal) × (f ≡ event_fault why 0 n)
 
 abbrev pub ToldFrom : ℕ → List Entry → Ending → Type 0
 ToldFrom n [] w = ToldEnding n w

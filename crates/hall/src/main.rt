@@ -12,7 +12,6 @@ use layers::layer::Layer;
 use printing::{PrintedLine, PrintedWindow};
 use receipts::line::Line;
 use receipts::window::Window;
-use refusals::ending::Ending;
 use refusals::fault::{Fault, Side};
 use refusals::refusal::Refusal;
 use rows::payload::UNLIMITED;
@@ -156,7 +155,7 @@ fn main(rt: HostRuntime) -> anyhow::Result<()> {
     windows.truncate(report.windows);
     print_windows(&rt, lines.as_slice(), windows.as_slice())?;
     match report.ending {
-        Ending::End => {
+        Ok(()) => {
             let (closed, held_left, held_right) = (
                 report.closed,
                 report.held_left,
@@ -165,6 +164,6 @@ fn main(rt: HostRuntime) -> anyhow::Result<()> {
             println!(rt; "E {closed} {held_left} {held_right}")?;
             Ok(())
         }
-        Ending::Failed(fault) => tell(&rt, fault),
+        Err(fault) => tell(&rt, fault),
     }
 }

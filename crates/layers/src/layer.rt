@@ -6,11 +6,10 @@ ghost use Rattle.rewriting.proofs.Over.{layer_piled, keep_more};
 ghost use Rattle.layers.specs.Lawful.{LayerLawful};
 
 use crate::rewrite::rewrite;
-use refusals::ending::Ending;
 use refusals::fault::Fault;
 use rows::payload::Payload;
 use rules::rule::RowRule;
-use sources::source::{Source, Taken};
+use sources::source::{Numbered, Source};
 
 // The source below, the rule, and the fault that the layer has met.
 #[derive(Drop)]
@@ -51,27 +50,22 @@ impl<S: Source, R: RowRule> Source for Layer<S, R> {
     ghost piled = { λ s. layer_piled s.failed (R.RowRule.rule s.rule S.Payload.Payload.kind) (S.Source.rules s.below)
         (S.Source.stream s.below) (S.Source.foot s.below) (S.Source.piled s.below) };
 
-    fn take(&mut self) -> Taken<S::Payload> {
+    fn take(&mut self) -> Result<Option<Numbered<S::Payload>>, Fault> {
         if let Some(fault) = self.failed {
-            return Taken::Ended(Ending::Failed(fault));
+            return Err(fault);
         }
-        loop {
-            match self.below.take() {
-                Taken::Ended(ending) => return Taken::Ended(ending),
-                Taken::Next { number, event } => match rewrite(&self.rule, event) {
-                    Ok(made) => {
-                        if let Some(event) = made {
-                            return Taken::Next { number, event };
-                        }
-                    }
-                    Err(why) => {
-                        let fault = Fault::at_event(why, self.depth(), number);
-                        self.failed = Some(fault);
-                        return Taken::Ended(Ending::Failed(fault));
-                    }
-                },
+        while let Some(Numbered { number, event }) = self.below.take()? {
+            match rewrite(&self.rule, event) {
+                Ok(None) => {}
+                Ok(Some(event)) => return Ok(Some(Numbered { number, event })),
+                Err(why) => {
+                    let fault = Fault::at_event(why, self.depth(), number);
+                    self.failed = Some(fault);
+                    return Err(fault);
+                }
             }
         }
+        Ok(None)
     }
 
     fn depth(&self) -> u32 {

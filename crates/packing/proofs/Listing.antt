@@ -2,12 +2,10 @@
 use Rattle.std.proofs.Common.{◌≡◌, ℕ, suc, ◌+◌, true, List, [], ◌∷◌, ◌++◌, length, Ok, Err, vec_items, Result, Vec, sym, refl, ap, ◌∙◌, subst, arith}
 use Rattle.std.proofs.lemmas.Bool.{and_from, cond-true}
 use Rattle.std.specs.declared.alloc.Global.{Global}
-use Rattle.refusals.specs.declared.ending.Ending.{Ending}
-use Rattle.refusals.specs.declared.ending.Ending.TheVariants.{End, Failed}
 use Rattle.refusals.specs.declared.fault.Fault.{Fault}
 use Rattle.refusals.specs.declared.fault.Side.{Side}
 use Rattle.refusals.specs.declared.refusal.Refusal.{Refusal}
-use Rattle.refusals.specs.Faults.{bare_fault, on_side}
+use Rattle.refusals.specs.Faults.{bare_fault, on_side, Ending}
 use Rattle.receipts.specs.Histories.{Entry, events}
 use Rattle.rewriting.specs.Streams.{Stream}
 use Rattle.rows.specs.declared.event.Event.{Event}
@@ -22,9 +20,9 @@ use Rattle.text.specs.Text.{text_read}
 use Rattle.packing.specs.Collecting.{plains, ending_with, collected, collected_as}
 use Rattle.packing.specs.Packing.{plain_bytes, put_counted, packed_of, packed}
 
-ending_ok : (es vs : List PlainEvent) (w : Ending) → Ok vs ≡ ending_with es w → (es ≡ vs) × (w ≡ End)
-ending_ok es vs End h = (cc, refl)
-ending_ok es vs (Failed f) h = absurd (let z : ◌≡◌ {A = ℕ} 0 1 = cc in omega arith)
+ending_ok : (es vs : List PlainEvent) (w : Ending) → Ok vs ≡ ending_with es w → (es ≡ vs) × (w ≡ Ok tt)
+ending_ok es vs (Ok u) h = (cc, refl)
+ending_ok es vs (Err f) h = absurd (let z : ◌≡◌ {A = ℕ} 0 1 = cc in omega arith)
 
 -- the events of a slice are those that were collected
 pub from_slice : {P : Type 0} (pair : P → Pair) (vs : List (Event P)) (v : Vec (Event P) Global) (all : Result (Vec (Event P) Global) Fault) (src file : Stream) →
@@ -51,7 +49,7 @@ module _ {P : Type 0} (pair : P → Pair) where
       let f = firsts x.1 (plain_event pair v) (events xs) (plains pair vs) e in
       and_from (timely (plain_event pair v)) (all_timely pair vs) (sym (ap timely f.0) ∙ s.0) (all_lawful k xs vs s.2 f.1)
 
-  numbered_is : (n : ℕ) (xs : List Entry) (vs : List (Event P)) → ToldFrom n xs End → events xs ≡ plains pair vs → xs ≡ numbered pair n vs
+  numbered_is : (n : ℕ) (xs : List Entry) (vs : List (Event P)) → ToldFrom n xs (Ok tt) → events xs ≡ plains pair vs → xs ≡ numbered pair n vs
   numbered_is n [] [] t e = refl
   numbered_is n [] (v ∷ vs) t e = absurd (let z : ◌≡◌ {A = ℕ} 0 1 = cc in omega arith)
   numbered_is n (x ∷ xs) [] t e = absurd (let z : ◌≡◌ {A = ℕ} 0 1 = cc in omega arith)
@@ -60,7 +58,7 @@ module _ {P : Type 0} (pair : P → Pair) where
       ap (λ m. (m, x.1) ∷ xs) t.0 ∙ ap (λ y. (n, y) ∷ xs) f.0 ∙ ap (λ ys. (n, plain_event pair v) ∷ ys) (numbered_is (n + 1) xs vs t.1 f.1)
 
   module _ (k : Kind) (text : List ℕ) (vs : List (Event P)) (col : Ok (plains pair vs) ≡ collected (file_stream text_read k text)) where
-    whole : (events (file_course text_read k text).0 ≡ plains pair vs) × ((file_course text_read k text).1 ≡ End)
+    whole : (events (file_course text_read k text).0 ≡ plains pair vs) × ((file_course text_read k text).1 ≡ Ok tt)
     whole = ending_ok (events (file_course text_read k text).0) (plains pair vs) (file_course text_read k text).1 col
 
     pub listed_is : listed_stream pair vs 0 ≡ file_stream text_read k text

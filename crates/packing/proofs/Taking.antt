@@ -1,6 +1,6 @@
 -- One event more of a source. Assumes nothing.
 use Rattle.std.proofs.Common.{◌≡◌, ℕ, List, [], ◌∷◌, ◌++◌, sym, refl, ap, ◌∙◌, arith}
-use Rattle.refusals.specs.declared.ending.Ending.{Ending}
+use Rattle.refusals.specs.Faults.{Ending}
 use Rattle.receipts.specs.Histories.{Entry, events}
 use Rattle.rewriting.specs.Streams.{Stream}
 use Rattle.rows.specs.declared.event.Event.{Event}

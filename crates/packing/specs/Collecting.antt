@@ -4,8 +4,7 @@
 --     collected_as pair r     the answer r of a call that collects a source, its events as numbers
 use Rattle.std.specs.Prelude.{List, [], ◌∷◌, Ok, Err, vec_items, Result, Vec}
 use Rattle.std.specs.declared.alloc.Global.{Global}
-use Rattle.refusals.specs.declared.ending.Ending.{Ending}
-use Rattle.refusals.specs.declared.ending.Ending.TheVariants.{End, Failed}
+use Rattle.refusals.specs.Faults.{Ending}
 use Rattle.refusals.specs.declared.fault.Fault.{Fault}
 use Rattle.receipts.specs.Histories.{events}
 use Rattle.rewriting.specs.Streams.{Stream}
@@ -18,8 +17,8 @@ plains pair [] = []
 plains pair (e ∷ es) = plain_event pair e ∷ plains pair es
 
 abbrev pub ending_with : List PlainEvent → Ending → Result (List PlainEvent) Fault
-ending_with es End = Ok es
-ending_with es (Failed f) = Err f
+ending_with es (Ok u) = Ok es
+ending_with es (Err f) = Err f
 
 abbrev pub collected : Stream → Result (List PlainEvent) Fault
 collected src = ending_with (events src.entries) src.ending

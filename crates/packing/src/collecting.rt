@@ -2,11 +2,10 @@
 ghost use Rattle.std.specs.Prelude.{◌≡◌, IfOk};
 ghost use Rattle.packing.specs.Collecting.{collected_as, collected};
 
-use refusals::ending::Ending;
 use refusals::fault::Fault;
 use rows::event::Event;
 use rows::payload::Payload;
-use sources::source::{Source, Taken};
+use sources::source::Source;
 use std::alloc::{AllocError, Global};
 
 // The events of a source, or the fault that it ends with.
@@ -19,9 +18,9 @@ pub fn collect<P: Payload, S: Source<Payload = P> + Drop>(
     let mut events = Vec::new(heap);
     loop {
         match source.take() {
-            Taken::Next { event, .. } => events.push(event)?,
-            Taken::Ended(Ending::End) => return Ok(Ok(events)),
-            Taken::Ended(Ending::Failed(fault)) => return Ok(Err(fault)),
+            Ok(Some(next)) => events.push(next.event)?,
+            Ok(None) => return Ok(Ok(events)),
+            Err(fault) => return Ok(Err(fault)),
         }
     }
 }

@@ -1,6 +1,5 @@
-// The refusals that the engine tells, the faults that say where one was met, and how a source or a run ends.
+// The refusals that the engine tells, and the faults that say where one was met.
 #![tactic(auto)]
 
-pub mod ending;
 pub mod fault;
 pub mod refusal;

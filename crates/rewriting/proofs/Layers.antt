@@ -1,8 +1,7 @@
 -- A layer over a legal list: its list is legal, and its history the rule's image of the one below.
-use Rattle.std.proofs.Common.{◌≡◌, ℕ, List, [], ◌∷◌, sym, refl, ap, ◌∙◌, subst, inl, arith}
+use Rattle.std.proofs.Common.{◌≡◌, ℕ, List, [], ◌∷◌, sym, refl, ap, ◌∙◌, subst, inl, arith, Ok}
 use Rattle.std.proofs.lemmas.Bool.{cond-true}
-use Rattle.refusals.specs.declared.ending.Ending.{Ending}
-use Rattle.refusals.specs.declared.ending.Ending.TheVariants.{End}
+use Rattle.refusals.specs.Faults.{Ending}
 use Rattle.refusals.specs.declared.refusal.Refusal.TheVariants.{BadTime}
 use Rattle.rows.specs.Rows.{Plain}
 use Rattle.rows.specs.Events.{PlainEvent, timely}
@@ -30,7 +29,7 @@ Carried f d rows up xs zs = LegalFrom d up (events zs) × Over f (history_from r
 
 module _ (f : Rule) (laws : Keeps f) (depth : ℕ) (ending : Ending) where
   along : (xs : List Entry) (c d : ℕ) (rows up : List Plain) → Latest f c d → Over f rows up → LegalFrom c rows (events xs) →
-      layered_ending f depth xs ending ≡ End → Carried f d rows up xs (layered f xs)
+      layered_ending f depth xs ending ≡ Ok tt → Carried f d rows up xs (layered f xs)
   along [] c d rows up latest over legal h = (tt, over)
   along (x ∷ xs) c d rows up latest over legal h =
       go (rewritten f e) stepped h
@@ -52,9 +51,9 @@ module _ (f : Rule) (laws : Keeps f) (depth : ℕ) (ending : Ending) where
       image_now : (j : ℕ) → image_of f (put_event e (held rows) j) ≡ image_of f (held (applied e rows) j)
       image_now j = sym (ap (image_of f) (applied_held rows e j over.below fitting))
 
-      go : (w : Rewritten) → Step f c d (held rows) (held up) e w → ending_from w depth x.0 (layered_ending f depth xs ending) ≡ End →
+      go : (w : Rewritten) → Step f c d (held rows) (held up) e w → ending_from w depth x.0 (layered_ending f depth xs ending) ≡ Ok tt →
           ((d2 : ℕ) (up2 : List Plain) → Latest f (cti_after c e) d2 → Over f (applied e rows) up2 →
-          layered_ending f depth xs ending ≡ End → Carried f d2 (applied e rows) up2 xs (layered f xs)) →
+          layered_ending f depth xs ending ≡ Ok tt → Carried f d2 (applied e rows) up2 xs (layered f xs)) →
           Carried f d rows up (x ∷ xs) (entries_from w x.0 (layered f xs))
       go vanishes s h rest = rest d up s.latest (record { below = below_now; above = over.above; imaged = λ j. s.imaged j ∙ image_now j }) h
       go (is_now u) s h rest =
@@ -81,9 +80,9 @@ layers_lawful f src laws legal h =
     )
 
 -- a layer that doesn't fault stands over a source that doesn't
-pub layer_end : (f : Rule) (src : Stream) → (layer f src).ending ≡ End → src.ending ≡ End
+pub layer_end : (f : Rule) (src : Stream) → (layer f src).ending ≡ Ok tt → src.ending ≡ Ok tt
 layer_end f src = from src.entries
   where
-    from : (xs : List Entry) → layered_ending f (deeper src.depth) xs src.ending ≡ End → src.ending ≡ End
+    from : (xs : List Entry) → layered_ending f (deeper src.depth) xs src.ending ≡ Ok tt → src.ending ≡ Ok tt
     from [] h = h
     from (x ∷ xs) h = from xs (grind arith)

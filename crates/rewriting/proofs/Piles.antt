@@ -1,6 +1,5 @@
 -- Piles of layers: what one layer does to a legal list, each in turn does to the list below it.
-use Rattle.std.proofs.Common.{◌≡◌, List, [], ◌∷◌, ◌++◌, refl}
-use Rattle.refusals.specs.declared.ending.Ending.TheVariants.{End}
+use Rattle.std.proofs.Common.{◌≡◌, List, [], ◌∷◌, ◌++◌, refl, Ok}
 use Rattle.rows.specs.Rows.{Plain}
 use Rattle.receipts.specs.Histories.{events}
 use Rattle.receipts.specs.Lists.{SameMembers}
@@ -17,7 +16,7 @@ through_same : (fs : List Rule) (xs ys : List Plain) → SameMembers xs ys → S
 through_same [] xs ys same = same
 through_same (f ∷ fs) xs ys same = through_same fs (images f xs) (images f ys) (images_same f xs ys same)
 
-pile_end : (fs : List Rule) (src : Stream) → (pile fs src).ending ≡ End → src.ending ≡ End
+pile_end : (fs : List Rule) (src : Stream) → (pile fs src).ending ≡ Ok tt → src.ending ≡ Ok tt
 pile_end [] src h = h
 pile_end (f ∷ fs) src h = layer_end f src (pile_end fs (layer f src) h)
 

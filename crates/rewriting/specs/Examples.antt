@@ -7,11 +7,9 @@
 --     ShiftedLayer                a layer by shift, which ends at a refused event
 --     Piled                       two rules over one row, in both orders
 --     Examples                    all of them
-use Rattle.std.specs.Prelude.{◌≡◌, ℕ, ◌*◌, cond, List, [], ◌∷◌, ◌==◌}
-use Rattle.refusals.specs.declared.ending.Ending.{Ending}
-use Rattle.refusals.specs.declared.ending.Ending.TheVariants.{End, Failed}
+use Rattle.std.specs.Prelude.{◌≡◌, ℕ, ◌*◌, cond, List, [], ◌∷◌, ◌==◌, Ok, Err}
 use Rattle.refusals.specs.declared.refusal.Refusal.TheVariants.{OutOfTime}
-use Rattle.refusals.specs.Faults.{event_fault}
+use Rattle.refusals.specs.Faults.{event_fault, Ending}
 use Rattle.rows.specs.Kinds.{Kind}
 use Rattle.rows.specs.Rows.{Plain}
 use Rattle.rows.specs.Events.{insert, retraction, cti}
@@ -36,7 +34,7 @@ abbrev pub stream : ℕ → Ending → List Entry → Stream
 stream depth ending entries = record { entries = entries; ending = ending; depth = depth }
 
 abbrev pub far_row : Stream
-far_row = stream 0 End ((1, insert (spanning 5 3999999995)) ∷ [])
+far_row = stream 0 (Ok tt) ((1, insert (spanning 5 3999999995)) ∷ [])
 
 -- a clipped reading passes no finite upper bound; both bounds on keys are in range
 abbrev pub Selecting : Type 0
@@ -76,29 +74,29 @@ Lasting =
 abbrev pub SelectedLayer : Type 0
 SelectedLayer =
     layer (select readings 0 8999 0 4294967295)
-    (stream 0 End ((1, insert (row 1 10 60 9000 2)) ∷ (2, insert (row 2 20 60 7 2)) ∷ (3, retraction (row 1 10 60 9000 2) 55) ∷ (4, cti 25) ∷ []))
-    ≡ stream 1 End ((2, insert (row 2 20 60 7 2)) ∷ (4, cti 25) ∷ [])
+    (stream 0 (Ok tt) ((1, insert (row 1 10 60 9000 2)) ∷ (2, insert (row 2 20 60 7 2)) ∷ (3, retraction (row 1 10 60 9000 2) 55) ∷ (4, cti 25) ∷ []))
+    ≡ stream 1 (Ok tt) ((2, insert (row 2 20 60 7 2)) ∷ (4, cti 25) ∷ [])
 
 -- A retraction that leaves the image as it is vanishes; one that takes the row away takes its image away.
 abbrev pub LastingLayer : Type 0
 LastingLayer =
     layer (set_duration 30)
-    (stream 2 End ((1, insert (spanning 10 forever)) ∷ (2, retraction (spanning 10 forever) 90) ∷ (3, retraction (spanning 10 90) 10) ∷ []))
-    ≡ stream 3 End ((1, insert (spanning 10 40)) ∷ (3, retraction (spanning 10 40) 10) ∷ [])
+    (stream 2 (Ok tt) ((1, insert (spanning 10 forever)) ∷ (2, retraction (spanning 10 forever) 90) ∷ (3, retraction (spanning 10 90) 10) ∷ []))
+    ≡ stream 3 (Ok tt) ((1, insert (spanning 10 40)) ∷ (3, retraction (spanning 10 40) 10) ∷ [])
 
 -- A retraction moves the image's end; the first refused event ends the list, told at the layer's depth.
 abbrev pub ShiftedLayer : Type 0
 ShiftedLayer =
     layer (shift 10)
-    (stream 4 End ((1, insert (spanning 5 20)) ∷ (2, retraction (spanning 5 20) forever) ∷ (3, cti 3999999991) ∷ (4, cti 3999999992) ∷ []))
-    ≡ stream 5 (Failed (event_fault OutOfTime 5 3)) ((1, insert (spanning 15 30)) ∷ (2, retraction (spanning 15 30) forever) ∷ [])
+    (stream 4 (Ok tt) ((1, insert (spanning 5 20)) ∷ (2, retraction (spanning 5 20) forever) ∷ (3, cti 3999999991) ∷ (4, cti 3999999992) ∷ []))
+    ≡ stream 5 (Err (event_fault OutOfTime 5 3)) ((1, insert (spanning 15 30)) ∷ (2, retraction (spanning 15 30) forever) ∷ [])
 
 -- The lowest rule comes first: a far end is out of time for shift, unless set_duration brought it near.
 abbrev pub Piled : Type 0
 Piled =
-    (pile (set_duration 5 ∷ shift 10 ∷ []) far_row ≡ stream 2 End ((1, insert (spanning 15 20)) ∷ []))
+    (pile (set_duration 5 ∷ shift 10 ∷ []) far_row ≡ stream 2 (Ok tt) ((1, insert (spanning 15 20)) ∷ []))
     × (rewritten_history (set_duration 5 ∷ shift 10 ∷ []) far_row ≡ spanning 15 20 ∷ [])
-    × (pile (shift 10 ∷ set_duration 5 ∷ []) far_row ≡ stream 2 (Failed (event_fault OutOfTime 1 1)) [])
+    × (pile (shift 10 ∷ set_duration 5 ∷ []) far_row ≡ stream 2 (Err (event_fault OutOfTime 1 1)) [])
     × (rewritten_history (shift 10 ∷ set_duration 5 ∷ []) far_row ≡ [])
 
 abbrev pub Examples : Type 0

@@ -4,8 +4,7 @@
 --     PilesLawful                 so it is with piles of any height
 --     PilesGrow                   a pile with one more rule on top is a layer over the pile
 --     RulesKeep                   the engine's rules keep the laws of row rules
-use Rattle.std.specs.Prelude.{◌≡◌, ℕ, ◌<◌, List, [], ◌∷◌, ◌++◌}
-use Rattle.refusals.specs.declared.ending.Ending.TheVariants.{End}
+use Rattle.std.specs.Prelude.{◌≡◌, ℕ, ◌<◌, List, [], ◌∷◌, ◌++◌, Ok}
 use Rattle.rows.specs.Kinds.{Kind}
 use Rattle.rows.specs.Rows.{Plain}
 use Rattle.receipts.specs.Histories.{events, history, Legal}
@@ -23,11 +22,11 @@ abbrev pub LegalWith : List Plain → Stream → Type 0
 LegalWith rows src = Legal (events src.entries) × SameMembers (history_of src) rows × Once (history_of src)
 
 abbrev pub LayersLawful : Type 0
-LayersLawful = (f : Rule) (src : Stream) → Keeps f → Legal (events src.entries) → (layer f src).ending ≡ End →
+LayersLawful = (f : Rule) (src : Stream) → Keeps f → Legal (events src.entries) → (layer f src).ending ≡ Ok tt →
     LegalWith (images f (history_of src)) (layer f src)
 
 abbrev pub PilesLawful : Type 0
-PilesLawful = (fs : List Rule) (src : Stream) → AllKeep fs → Legal (events src.entries) → (pile fs src).ending ≡ End →
+PilesLawful = (fs : List Rule) (src : Stream) → AllKeep fs → Legal (events src.entries) → (pile fs src).ending ≡ Ok tt →
     LegalWith (rewritten_history fs src) (pile fs src)
 
 abbrev pub PilesGrow : Type 0

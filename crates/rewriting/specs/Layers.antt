@@ -5,12 +5,10 @@
 --     pile fs src                 the stream of layers by the rules fs, lowest first
 --     images f rows               the images of rows, those without one left out
 --     rewritten_history fs src    the history of the stream src, its rows put through the rules fs, lowest first
-use Rattle.std.specs.Prelude.{ℕ, cond, ◌&&◌, List, [], ◌∷◌, ◌==◌}
-use Rattle.refusals.specs.declared.ending.Ending.{Ending}
-use Rattle.refusals.specs.declared.ending.Ending.TheVariants.{Failed}
+use Rattle.std.specs.Prelude.{ℕ, cond, ◌&&◌, List, [], ◌∷◌, ◌==◌, Err}
 use Rattle.refusals.specs.declared.refusal.Refusal.{Refusal}
 use Rattle.refusals.specs.declared.refusal.Refusal.TheVariants.{BadTime}
-use Rattle.refusals.specs.Faults.{event_fault}
+use Rattle.refusals.specs.Faults.{event_fault, Ending}
 use Rattle.rows.specs.Rows.{Plain, with_end}
 use Rattle.rows.specs.Events.{PlainEvent, insert, retraction, cti, timely}
 use Rattle.rows.specs.Times.{whole}
@@ -71,7 +69,7 @@ layered f (x ∷ xs) = entries_from (rewritten f x.1) x.0 (layered f xs)
 abbrev pub ending_from : Rewritten → ℕ → ℕ → Ending → Ending
 ending_from vanishes depth n w = w
 ending_from (is_now e) depth n w = w
-ending_from (refused why) depth n w = Failed (event_fault why depth n)
+ending_from (refused why) depth n w = Err (event_fault why depth n)
 
 abbrev pub layered_ending : Rule → ℕ → List Entry → Ending → Ending
 layered_ending f depth [] w = w

@@ -2,9 +2,8 @@
 --     Stream                      its remaining events, each under its number, its ending and its depth
 --     deeper d                    the depth of a layer over a source of depth d
 --     over o src                  the stream src, or what is left of it once the fault o was met: no event, and that fault
-use Rattle.std.specs.Prelude.{ℕ, ◌+◌, min, List, [], Some, None, Option}
-use Rattle.refusals.specs.declared.ending.Ending.{Ending}
-use Rattle.refusals.specs.declared.ending.Ending.TheVariants.{Failed}
+use Rattle.std.specs.Prelude.{ℕ, ◌+◌, min, List, [], Some, None, Option, Err}
+use Rattle.refusals.specs.Faults.{Ending}
 use Rattle.refusals.specs.declared.fault.Fault.{Fault}
 use Rattle.receipts.specs.Histories.{Entry}
 
@@ -18,4 +17,4 @@ deeper d = min (d + 1) 65535
 
 abbrev pub over : Option Fault → Stream → Stream
 over None src = src
-over (Some f) src = record { entries = []; ending = Failed f; depth = src.depth }
+over (Some f) src = record { entries = []; ending = Err f; depth = src.depth }

@@ -3,8 +3,7 @@
 --     Brings r es                 the step r comes of the entries es
 use Rattle.std.proofs.Common.{◌≡◌, ℕ, ◌+◌, ◌-◌, Bool, true, false, List, [], ◌∷◌, length, Ok, Err, Result, sym, refl, ap, ◌∙◌, subst, add-one}
 use Rattle.std.proofs.lemmas.Bool.{true≢false}
-use Rattle.refusals.specs.declared.ending.Ending.{Ending}
-use Rattle.refusals.specs.declared.ending.Ending.TheVariants as ending
+use Rattle.refusals.specs.Faults.{Ending}
 use Rattle.refusals.specs.declared.fault.Fault.{Fault}
 use Rattle.refusals.specs.declared.fault.Side.{Side}
 use Rattle.refusals.specs.declared.fault.Side.TheVariants.{Left, Right}
@@ -27,17 +26,17 @@ use Rattle.run.specs.declared.feeding.Step.TheVariants as step
 use Rattle.run.specs.Steps.{is_cti, ending_step, answer_step, Fed, fed, stepped_by, stepped}
 use Rattle.run.specs.Turns.{entries_of, shallows, tails}
 
-abbrev pub after_step : Setup → Places → Side → RunState → Step → Turn
-after_step s p side x step.Ended = goes_on (over_on side x)
-after_step s p side x (step.Failed f) = stops x f
-after_step s p side x step.Accepted = goes_on x
-after_step s p side x (step.Advanced depth n) = closings s p (run_fault side depth n) (p.windows - length x.windows) x
+abbrev pub after_step : Setup → Places → Side → RunState → Result Step Fault → Turn
+after_step s p side x (Err f) = stops x f
+after_step s p side x (Ok step.Ended) = goes_on (over_on side x)
+after_step s p side x (Ok step.Accepted) = goes_on x
+after_step s p side x (Ok (step.Advanced depth n)) = closings s p (run_fault side depth n) (p.windows - length x.windows) x
 
-abbrev pub Brings : Step → List Entry → Type 0
-Brings step.Ended es = es ≡ []
-Brings (step.Failed f) es = Unit {0}
-Brings step.Accepted es = length (behind es) + 1 ≡ length es
-Brings (step.Advanced depth n) es = length (behind es) + 1 ≡ length es
+abbrev pub Brings : Result Step Fault → List Entry → Type 0
+Brings (Err f) es = Unit {0}
+Brings (Ok step.Ended) es = es ≡ []
+Brings (Ok step.Accepted) es = length (behind es) + 1 ≡ length es
+Brings (Ok (step.Advanced depth n)) es = length (behind es) + 1 ≡ length es
 
 -- a refused event changes nothing
 refused_keeps : (s : Setup) (q : QueryState) (side : Side) (e : PlainEvent) →
@@ -65,14 +64,14 @@ module _ (s : Setup) (p : Places) (side : Side) (srcs : Both Stream) (x : RunSta
   answered_turn depth n (cti t) es (Ok u) h keeps = refl
   answered_turn depth n e es (Err why) h keeps =
       let f : Fault = located depth n (event_refused side half why) in
-      ap (λ q. report (after q es) (ending.Failed f)) (keeps refl)
+      ap (λ q. report (after q es) (Err f)) (keeps refl)
 
   ended_turn : (w : Ending) → pick side x.rest ≡ [] →
       continued (after_step s p side (after x.query []) (ending_step side w)) go ≡ continued (ended side w x) go
-  ended_turn ending.End none =
+  ended_turn (Ok tt) none =
       ap (λ rest. go (over_on side (record { query = x.query; rest = rest; over = x.over; lines = x.lines; windows = x.windows })))
       (ap (λ es. put side es x.rest) (sym none) ∙ put_same side x.rest)
-  ended_turn (ending.Failed f) none = refl
+  ended_turn (Err f) none = refl
 
   abbrev made : List Entry → Fed
   made es = stepped_by s x.query side (pick side srcs).depth (first_of es (pick side srcs).ending)
@@ -92,8 +91,8 @@ answer_brings depth n c (told x) e es = add-one (length es)
 answer_brings depth n c (refused f) e es = tt
 
 ending_brings : (side : Side) (w : Ending) → Brings (ending_step side w) []
-ending_brings side ending.End = refl
-ending_brings side (ending.Failed f) = tt
+ending_brings side (Ok tt) = refl
+ending_brings side (Err f) = tt
 
 step_brings : (s : Setup) (q : QueryState) (side : Side) (depth : ℕ) (w : Ending) (es : List Entry) → Brings (stepped_by s q side depth (first_of es w)).step es
 step_brings s q side depth w [] = ending_brings side w
@@ -119,7 +118,7 @@ module _ (side : Side) (srcs srcs' : Both Stream) (after : srcs' ≡ put side (r
   pub entries_after : entries_of srcs' ≡ put side (behind es) (entries_of srcs)
   entries_after = ap entries_of after ∙ put_entries side srcs
 
-  module _ (s : Setup) (q q' : QueryState) (r : Step) (made : fed r q' ≡ stepped s q side (pick side (shallows srcs))) where
+  module _ (s : Setup) (q q' : QueryState) (r : Result Step Fault) (made : fed r q' ≡ stepped s q side (pick side (shallows srcs))) where
     pub brings : Brings r es
     brings = subst (λ (f : Fed). Brings f.step es) (sym made)
         (step_brings s q side (pick side (shallows srcs)).depth (pick side (shallows srcs)).ending es)

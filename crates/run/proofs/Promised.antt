@@ -1,7 +1,6 @@
 -- The receipt promise holds of every query, and of every run of one.
-use Rattle.std.proofs.Common.{◌≡◌, ℕ, ◌<◌, true, leb, List, sym, refl, ◌∙◌, subst}
+use Rattle.std.proofs.Common.{◌≡◌, ℕ, ◌<◌, true, leb, List, sym, refl, ◌∙◌, subst, Ok}
 use Rattle.std.proofs.lemmas.Bool.{leb-true, and_parts}
-use Rattle.refusals.specs.declared.ending.Ending.TheVariants.{End}
 use Rattle.refusals.specs.declared.fault.Side.{Side}
 use Rattle.refusals.specs.declared.fault.Side.TheVariants.{Left, Right}
 use Rattle.rows.specs.Kinds.{Kind}
@@ -75,7 +74,7 @@ module _ (k m : Kind) (c d width : ℕ) where
       same_ending Left = refl
       same_ending Right = refl
 
-  module _ (some : 0 < width) (fs : Both (List Rule)) (feet : Both Stream) (a : Report) (lawful : Lawful fs feet) (v : Made s (piled fs feet) a) (ends : a.ending ≡ End) where
+  module _ (some : 0 < width) (fs : Both (List Rule)) (feet : Both Stream) (a : Report) (lawful : Lawful fs feet) (v : Made s (piled fs feet) a) (ends : a.ending ≡ Ok tt) where
     -- the rows of the rewritten histories are those of the accepted events
     rewritten_in_kind : (x : Side) (r : Plain) → In r (pick x (rewritten_histories fs feet)) → in_kind (pick x (both k m)) r ≡ true
     rewritten_in_kind x r h = (row_sound v.calls x r ((histories_same fs feet s a lawful v ends x r).1 h)).1

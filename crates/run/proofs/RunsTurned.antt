@@ -1,7 +1,6 @@
 -- Turn after turn, a run comes to what the model's run comes to.
-use Rattle.std.proofs.Common.{◌≡◌, ℕ, zero, suc, ◌+◌, ◌-◌, ◌<◌, Bool, true, false, ◌&&◌, List, [], ◌∷◌, Some, None, Option, sym, refl, ap, ◌∙◌, arith}
+use Rattle.std.proofs.Common.{◌≡◌, ℕ, zero, suc, ◌+◌, ◌-◌, ◌<◌, Bool, true, false, ◌&&◌, List, [], ◌∷◌, Some, None, Option, sym, refl, ap, ◌∙◌, arith, Ok, Err}
 use Rattle.std.proofs.lemmas.Bool.{both_ways, and_from, cond-true, cond-false}
-use Rattle.refusals.specs.declared.ending.Ending.TheVariants.{End, Failed}
 use Rattle.refusals.specs.declared.fault.Fault.{Fault}
 use Rattle.refusals.specs.declared.fault.Side.{Side}
 use Rattle.refusals.specs.declared.fault.Side.TheVariants.{Left, Right}
@@ -37,7 +36,7 @@ module _ (s : Setup) (p : Places) where
       ∙ ap (λ ends. turn s p (shallows ends) x) same
       ∙ sym (take_by_tails others x (next_side x) (pick (next_side x) x.rest))
 
-  pub ran_over : (srcs : Both Stream) (n : ℕ) (x : RunState) → (x.over.left && x.over.right) ≡ true → ran s p srcs n x ≡ report x End
+  pub ran_over : (srcs : Both Stream) (n : ℕ) (x : RunState) → (x.over.left && x.over.right) ≡ true → ran s p srcs n x ≡ report x (Ok tt)
   ran_over srcs zero x over = refl
   ran_over srcs (suc n) x over = cond-true _ _ _ over
 
@@ -59,6 +58,6 @@ module _ (s : Setup) (p : Places) where
         sym (ran_turned n (omega (arith, one)) ∙ ap (λ z. continued (turned x' z) (λ y. ran s p (shallows others) n y)) fine)
 
     -- a fault is where it stops
-    pub stops_there : (f : Fault) → o ≡ Some f → 0 < m → report x' (Failed f) ≡ ran s p (shallows others) m x
+    pub stops_there : (f : Fault) → o ≡ Some f → 0 < m → report x' (Err f) ≡ ran s p (shallows others) m x
     stops_there f met some =
         sym (ran_turned (m - 1) (omega (arith, some)) ∙ ap (λ z. continued (turned x' z) (λ y. ran s p (shallows others) (m - 1) y)) met)

@@ -1,5 +1,5 @@
 -- A turn of the code is the model's turn, by what came of the side's step.
-use Rattle.std.proofs.Common.{◌≡◌, ℕ, ◌+◌, ◌-◌, ◌≤◌, true, false, ◌&&◌, List, length, take, Some, None, Option, sym, refl, ap, ◌∙◌, subst}
+use Rattle.std.proofs.Common.{◌≡◌, ℕ, ◌+◌, ◌-◌, ◌≤◌, true, false, ◌&&◌, List, length, take, Some, None, Option, Ok, Result, sym, refl, ap, ◌∙◌, subst}
 use Rattle.std.proofs.lemmas.List.{length-take-le}
 use Rattle.refusals.specs.declared.fault.Fault.{Fault}
 use Rattle.refusals.specs.declared.fault.Side.{Side}
@@ -44,27 +44,27 @@ module _ (s : Setup) (q q' : QueryState) (srcs srcs' : Both Stream) (ls : List L
   pub ends_kept : tails srcs' ≡ tails srcs
   ends_kept = ap tails after ∙ tails_kept side srcs
 
-  module _ (r : Step) (made : fed r q' ≡ stepped s q side (pick side (shallows srcs))) where
+  module _ (r : Result Step Fault) (made : fed r q' ≡ stepped s q side (pick side (shallows srcs))) where
     pub step_turn : (go : RunState → Report) →
         continued (after_step s (places ls ws) side (stands q' srcs' ls ws x) r) go ≡ continued (turn s (places ls ws) (shallows srcs) here) go
     step_turn go =
         feeds side srcs srcs' after s q q' r made (places ls ws) (sides x.over) (take x.written.lines ls) (take x.written.windows ws) go
         ∙ ap (λ z. continued (take_from s (places ls ws) (shallows srcs) here z (pick z here.rest)) go) chosen
 
-  pub event_spent : (r : Step) → fed r q' ≡ stepped s q side (pick side (shallows srcs)) → length (behind es) + 1 ≡ length es →
+  pub event_spent : (r : Result Step Fault) → fed r q' ≡ stepped s q side (pick side (shallows srcs)) → length (behind es) + 1 ≡ length es →
       turns_left (entries_of srcs') (sides x.over) + 1 ≡ turns_left (entries_of srcs) (sides x.over)
   event_spent r made one =
       ap (λ rest. turns_left rest (sides x.over) + 1) (entries_after side srcs srcs' after)
       ∙ entry_spends (entries_of srcs) (sides x.over) side es (pick_entries side srcs) one
 
-  pub accepted_spent : fed step.Accepted q' ≡ stepped s q side (pick side (shallows srcs)) →
+  pub accepted_spent : fed (Ok step.Accepted) q' ≡ stepped s q side (pick side (shallows srcs)) →
       turns_left (entries_of srcs') (sides x.over) + 1 ≡ turns_left (entries_of srcs) (sides x.over)
-  accepted_spent made = event_spent step.Accepted made (brings side srcs srcs' after s q q' step.Accepted made)
+  accepted_spent made = event_spent (Ok step.Accepted) made (brings side srcs srcs' after s q q' (Ok step.Accepted) made)
 
-  module _ (made : fed step.Ended q' ≡ stepped s q side (pick side (shallows srcs))) (over : Over) (is : sides over ≡ put side true (sides x.over)) where
+  module _ (made : fed (Ok step.Ended) q' ≡ stepped s q side (pick side (shallows srcs))) (over : Over) (is : sides over ≡ put side true (sides x.over)) where
     pub ended_turn : (go : RunState → Report) →
         continued (turned (standing q' (entries_of srcs') (sides over) ls ws x.written) None) go ≡ continued (turn s (places ls ws) (shallows srcs) here) go
-    ended_turn go = ap (λ z. go (standing q' (entries_of srcs') z ls ws x.written)) is ∙ step_turn step.Ended made go
+    ended_turn go = ap (λ z. go (standing q' (entries_of srcs') z ls ws x.written)) is ∙ step_turn (Ok step.Ended) made go
 
     pub ended_spent : (x.over.left && x.over.right) ≡ false →
         turns_left (entries_of srcs') (sides over) + 1 ≡ turns_left (entries_of srcs) (sides x.over)
@@ -72,14 +72,14 @@ module _ (s : Setup) (q q' : QueryState) (srcs srcs' : Both Stream) (ls : List L
         let still : pick side (sides x.over) ≡ false =
         subst (λ z. pick z (sides x.over) ≡ false) (sym chosen) (next_unended x.over.left x.over.right _ unended) in
         (λ i. turns_left (entries_after side srcs srcs' after i) (is i) + 1)
-        ∙ ending_spends (entries_of srcs) (sides x.over) side es (pick_entries side srcs) (brings side srcs srcs' after s q q' step.Ended made) still
+        ∙ ending_spends (entries_of srcs) (sides x.over) side es (pick_entries side srcs) (brings side srcs srcs' after s q q' (Ok step.Ended) made) still
 
-  module _ (depth n : ℕ) (made : fed (step.Advanced depth n) q' ≡ stepped s q side (pick side (shallows srcs))) where
+  module _ (depth n : ℕ) (made : fed (Ok (step.Advanced depth n)) q' ≡ stepped s q side (pick side (shallows srcs))) where
     abbrev blame : Refusal → Fault
     blame = run_fault side depth n
 
     pub advanced_spent : turns_left (entries_of srcs') (sides x.over) + 1 ≡ turns_left (entries_of srcs) (sides x.over)
-    advanced_spent = event_spent (step.Advanced depth n) made (brings side srcs srcs' after s q q' (step.Advanced depth n) made)
+    advanced_spent = event_spent (Ok (step.Advanced depth n)) made (brings side srcs srcs' after s q q' (Ok (step.Advanced depth n)) made)
 
     module _ (t : Setup) (same : t ≡ s) (q'' : QueryState) (ls' : List Line) (ws' : List Window) (w : Written) (o : Option Refusal) (f : Option Fault)
         (within : x.written.windows ≤ length ws)
@@ -93,4 +93,4 @@ module _ (s : Setup) (q q' : QueryState) (srcs srcs' : Both Stream) (ls : List L
           ∙ ap (λ z. continued z go) (blamed_turn blame (standing q'' (entries_of srcs') (sides x.over) ls' ws' w) o)
           ∙ ap (λ z. continued z go) closed
           ∙ (λ i. continued (closings (same i) (places ls ws) blame (length ws - sym (length-take-le x.written.windows ws within) i) (stands q' srcs' ls ws x)) go)
-          ∙ step_turn (step.Advanced depth n) made go
+          ∙ step_turn (Ok (step.Advanced depth n)) made go

@@ -20,8 +20,7 @@
 --         made                        it comes of calls on a new query, which accepted both lists whole, each in its order, and
 --                                     it can close no more
 --     Promise k m c d width fs feet a     both: of every query so made, and of a run that ends without fault over legal lists
-use Rattle.std.specs.Prelude.{◌≡◌, ℕ, ◌+◌, ◌*◌, true, List, length}
-use Rattle.refusals.specs.declared.ending.Ending.TheVariants.{End}
+use Rattle.std.specs.Prelude.{◌≡◌, ℕ, ◌+◌, ◌*◌, true, List, length, Ok}
 use Rattle.refusals.specs.declared.fault.Side.{Side}
 use Rattle.rows.specs.Kinds.{Kind}
 use Rattle.rows.specs.Rows.{Plain, standing, in_kind}
@@ -72,4 +71,4 @@ pub record RunKept (k m : Kind) (s : Setup) (fs : Both (List Rule)) (feet : Both
 
 pub record Promise (k m : Kind) (c d width : ℕ) (fs : Both (List Rule)) (feet : Both Stream) (a : Report) : Type 0 where
   pub receipts : Receipts k m c d width
-  pub run : ((x : Side) → Legal (events_of x feet)) → a.ending ≡ End → RunKept k m (setting k m c d width) fs feet a
+  pub run : ((x : Side) → Legal (events_of x feet)) → a.ending ≡ Ok tt → RunKept k m (setting k m c d width) fs feet a

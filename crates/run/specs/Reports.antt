@@ -5,12 +5,10 @@
 --     lawful_width n                  a width is from 1 to 604,800
 --     refused_report f                nothing was done but to tell the fault f
 --     run_or_refused s p srcs         the report of a run over two streams, BadWidth where the width is not lawful
-use Rattle.std.specs.Prelude.{ℕ, Bool, false, cond, ◌&&◌, List, [], length, take, nat_le}
-use Rattle.refusals.specs.declared.ending.Ending.{Ending}
-use Rattle.refusals.specs.declared.ending.Ending.TheVariants.{Failed}
+use Rattle.std.specs.Prelude.{ℕ, Bool, false, cond, ◌&&◌, List, [], length, take, nat_le, Err}
 use Rattle.refusals.specs.declared.fault.Fault.{Fault}
 use Rattle.refusals.specs.declared.refusal.Refusal.TheVariants.{BadWidth}
-use Rattle.refusals.specs.Faults.{bare_fault}
+use Rattle.refusals.specs.Faults.{bare_fault, Ending}
 use Rattle.receipts.specs.declared.line.Line.{Line}
 use Rattle.receipts.specs.declared.window.Window.{Window}
 use Rattle.receipts.specs.Queries.{Setup, QueryState}
@@ -49,7 +47,7 @@ abbrev pub lawful_width : ℕ → Bool
 lawful_width n = nat_le 1 n && nat_le n 604800
 
 abbrev pub refused_report : Fault → Report
-refused_report f = record { lines = []; windows = []; closed = 0; held = twice 0; ending = Failed f }
+refused_report f = record { lines = []; windows = []; closed = 0; held = twice 0; ending = Err f }
 
 abbrev pub run_or_refused : Setup → Places → Both Stream → Report
 run_or_refused s p srcs = cond (lawful_width s.width) (run s p srcs) (refused_report (bare_fault BadWidth))

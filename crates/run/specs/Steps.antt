@@ -5,11 +5,10 @@
 --     answer_step depth n c a         what comes of the query's answer a to the n-th event of a source, a CTI where c is true
 --     Fed, fed r q                    what came of the turn, and the query that it leaves
 --     stepped s q side src            what comes of a turn of a side whose source is src
-use Rattle.std.specs.Prelude.{ℕ, min, Bool, true, false, cond}
-use Rattle.refusals.specs.declared.ending.Ending.{Ending}
-use Rattle.refusals.specs.declared.ending.Ending.TheVariants as ending
+use Rattle.std.specs.Prelude.{ℕ, min, Bool, true, false, cond, Ok, Err, Result}
+use Rattle.refusals.specs.declared.fault.Fault.{Fault}
 use Rattle.refusals.specs.declared.fault.Side.{Side}
-use Rattle.refusals.specs.Faults.{on_side}
+use Rattle.refusals.specs.Faults.{on_side, Ending}
 use Rattle.rows.specs.Events.{PlainEvent, insert, retraction, cti}
 use Rattle.receipts.specs.Queries.{Setup, QueryState, event, Answer, accepted, closed, told, refused, Called, called}
 use Rattle.rewriting.specs.Streams.{Stream}
@@ -26,22 +25,22 @@ is_cti (insert r) = false
 is_cti (retraction r e) = false
 is_cti (cti t) = true
 
-abbrev pub ending_step : Side → Ending → Step
-ending_step side ending.End = step.Ended
-ending_step side (ending.Failed f) = step.Failed (on_side side f)
+abbrev pub ending_step : Side → Ending → Result Step Fault
+ending_step side (Ok tt) = Ok step.Ended
+ending_step side (Err f) = Err (on_side side f)
 
 -- the query answers an event by accepting or refusing it, and in no other way
-abbrev pub answer_step : ℕ → ℕ → Bool → Answer → Step
-answer_step depth n c accepted = cond c (step.Advanced depth n) step.Accepted
-answer_step depth n c (closed w ls) = step.Accepted
-answer_step depth n c (told x) = step.Accepted
-answer_step depth n c (refused f) = step.Failed (located depth n f)
+abbrev pub answer_step : ℕ → ℕ → Bool → Answer → Result Step Fault
+answer_step depth n c accepted = Ok (cond c (step.Advanced depth n) step.Accepted)
+answer_step depth n c (closed w ls) = Ok step.Accepted
+answer_step depth n c (told x) = Ok step.Accepted
+answer_step depth n c (refused f) = Err (located depth n f)
 
 pub record Fed : Type 0 where
-  pub step : Step
+  pub step : Result Step Fault
   pub query : QueryState
 
-abbrev pub fed : Step → QueryState → Fed
+abbrev pub fed : Result Step Fault → QueryState → Fed
 fed r q = record { step = r; query = q }
 
 abbrev pub answered : ℕ → ℕ → PlainEvent → Called → Fed

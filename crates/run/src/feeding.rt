@@ -8,26 +8,24 @@ ghost use Rattle.joining.specs.Guards.{both};
 ghost use Rattle.run_laws.specs.Runs.{run_fault, located};
 ghost use Rattle.sources.specs.Taking.{rest_of};
 ghost use Rattle.receipts.specs.Sides.{pick, put};
-ghost use Rattle.run.specs.Steps.{shallow, is_cti, ending_step, answer_step, fed, stepped};
+ghost use Rattle.run.specs.Steps.{shallow, is_cti, answer_step, fed, stepped};
 
 use query::engine::Query;
-use refusals::ending::Ending;
 use refusals::fault::{Fault, Side};
 use refusals::refusal::Refusal;
 use rows::event::Event;
 use rows::payload::Payload;
-use sources::source::{Source, Taken};
+use sources::source::{Numbered, Source};
 use stores::store::Store;
 
 // The greatest depth of a source.
 const DEEPEST: u32 = 65_535;
 
-// What came of a side's turn: its source ended, a fault was met, or an event was accepted, which may be a CTI. A CTI has its
+// What came of a side's turn without a fault: its source ended, or an event was accepted, which may be a CTI. A CTI has its
 // number and its source's depth with it, since the closings after it may be refused.
 #[derive(Clone, Copy)]
 pub enum Step {
     Ended,
-    Failed(Fault),
     Accepted,
     Advanced { depth: u16, number: u64 },
 }
@@ -68,27 +66,17 @@ fn locate(depth: u16, number: u64, fault: Fault) -> Fault
     }
 }
 
-// After a source's ending.
-fn ended(side: Side, ending: Ending) -> Step
-    ensures { result ≡ ending_step side ending }
-{
-    match ending {
-        Ending::End => Step::Ended,
-        Ending::Failed(fault) => Step::Failed(fault.on_side(side)),
-    }
-}
-
 // After the query's answer to an event.
-fn answered(depth: u16, number: u64, cti: bool, answer: Result<(), Fault>) -> Step
+fn answered(depth: u16, number: u64, cti: bool, answer: Result<(), Fault>) -> Result<Step, Fault>
     ensures { result ≡ answer_step depth number cti (event_told answer) }
 {
     match answer {
-        Err(fault) => Step::Failed(locate(depth, number, fault)),
-        Ok(()) => if cti {
+        Err(fault) => Err(locate(depth, number, fault)),
+        Ok(()) => Ok(if cti {
             Step::Advanced { depth, number }
         } else {
             Step::Accepted
-        },
+        }),
     }
 }
 
@@ -96,7 +84,7 @@ fn answered(depth: u16, number: u64, cti: bool, answer: Result<(), Fault>) -> St
 fn feed_left<L: Payload, R: Payload, S: Store, T: Store, A: Source<Payload = L>>(
     query: &mut Query<L, R, S, T>,
     source: &mut A,
-) -> Step
+) -> Result<Step, Fault>
     ensures value { fed result (state S.Store.rows T.Store.rows query.new)
         ≡ stepped (setup L.Payload.kind R.Payload.kind S.Store.capacity T.Store.capacity query.old)
         (state S.Store.rows T.Store.rows query.old) Left (shallow (A.Source.stream source.old)) }
@@ -106,13 +94,14 @@ fn feed_left<L: Payload, R: Payload, S: Store, T: Store, A: Source<Payload = L>>
 {
     let depth = depth_of(source);
     match source.take() {
-        Taken::Ended(ending) => ended(Side::Left, ending),
-        Taken::Next { number, event } => answered(
+        Ok(None) => Ok(Step::Ended),
+        Ok(Some(Numbered { number, event })) => answered(
             depth,
             number,
             is_cti(&event),
             query.left_event(event),
         ),
+        Err(fault) => Err(fault.on_side(Side::Left)),
     }
 }
 
@@ -120,7 +109,7 @@ fn feed_left<L: Payload, R: Payload, S: Store, T: Store, A: Source<Payload = L>>
 fn feed_right<L: Payload, R: Payload, S: Store, T: Store, B: Source<Payload = R>>(
     query: &mut Query<L, R, S, T>,
     source: &mut B,
-) -> Step
+) -> Result<Step, Fault>
     ensures value { fed result (state S.Store.rows T.Store.rows query.new)
         ≡ stepped (setup L.Payload.kind R.Payload.kind S.Store.capacity T.Store.capacity query.old)
         (state S.Store.rows T.Store.rows query.old) Right (shallow (B.Source.stream source.old)) }
@@ -130,13 +119,14 @@ fn feed_right<L: Payload, R: Payload, S: Store, T: Store, B: Source<Payload = R>
 {
     let depth = depth_of(source);
     match source.take() {
-        Taken::Ended(ending) => ended(Side::Right, ending),
-        Taken::Next { number, event } => answered(
+        Ok(None) => Ok(Step::Ended),
+        Ok(Some(Numbered { number, event })) => answered(
             depth,
             number,
             is_cti(&event),
             query.right_event(event),
         ),
+        Err(fault) => Err(fault.on_side(Side::Right)),
     }
 }
 
@@ -148,7 +138,7 @@ pub fn feed<
     T: Store,
     A: Source<Payload = L>,
     B: Source<Payload = R>,
->(query: &mut Query<L, R, S, T>, left: &mut A, right: &mut B, side: Side) -> Step
+>(query: &mut Query<L, R, S, T>, left: &mut A, right: &mut B, side: Side) -> Result<Step, Fault>
     ensures value { fed result (state S.Store.rows T.Store.rows query.new)
         ≡ stepped (setup L.Payload.kind R.Payload.kind S.Store.capacity T.Store.capacity query.old)
         (state S.Store.rows T.Store.rows query.old) side

@@ -1,5 +1,5 @@
 // What a run tells.
-use refusals::ending::Ending;
+use refusals::fault::Fault;
 
 // How many lines and window records a run wrote, its closed time, how many rows each side still holds, and how it ended.
 #[derive(Clone, Copy, PartialEq, Eq, Debug)]
@@ -9,5 +9,5 @@ pub struct RunReport {
     pub closed: u32,
     pub held_left: usize,
     pub held_right: usize,
-    pub ending: Ending,
+    pub ending: Result<(), Fault>,
 }

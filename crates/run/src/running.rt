@@ -15,8 +15,7 @@ use crate::turning::{Over, Progress, take_turn};
 use query::engine::Query;
 use receipts::line::Line;
 use receipts::window::Window;
-use refusals::ending::Ending;
-use refusals::fault::Side;
+use refusals::fault::{Fault, Side};
 use rows::payload::Payload;
 use sources::source::Source;
 use stores::store::Store;
@@ -31,7 +30,7 @@ fn all_over(over: Over) -> bool
 fn report<L: Payload, R: Payload, S: Store, T: Store>(
     query: &Query<L, R, S, T>,
     written: Written,
-    ending: Ending,
+    ending: Result<(), Fault>,
 ) -> RunReport
     ensures { result ≡ report_of (state S.Store.rows T.Store.rows query.now) written ending }
 {
@@ -84,10 +83,10 @@ fn run_query<
         let turned = take_turn(query, left, right, lines, windows, progress);
         progress = turned.progress;
         if let Some(fault) = turned.fault {
-            return report(query, progress.written, Ending::Failed(fault));
+            return report(query, progress.written, Err(fault));
         }
     }
-    report(query, progress.written, Ending::End)
+    report(query, progress.written, Ok(()))
 }
 
 // A run with windows of a width over two sources, which writes its lines and its window records over the first places. It
@@ -119,7 +118,7 @@ pub fn run<
             closed: 0,
             held_left: 0,
             held_right: 0,
-            ending: Ending::Failed(fault),
+            ending: Err(fault),
         },
         Ok(mut query) => run_query(&mut query, left, right, lines, windows),
     }

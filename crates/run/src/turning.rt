@@ -122,22 +122,22 @@ pub fn take_turn<
 {
     let side = next_side(query, progress.over);
     match feed(query, left, right, side) {
-        Step::Ended => Turned {
+        Ok(Step::Ended) => Turned {
             progress: Progress {
                 over: end_side(progress.over, side),
                 written: progress.written,
             },
             fault: None,
         },
-        Step::Failed(fault) => Turned {
+        Err(fault) => Turned {
             progress,
             fault: Some(fault),
         },
-        Step::Accepted => Turned {
+        Ok(Step::Accepted) => Turned {
             progress,
             fault: None,
         },
-        Step::Advanced { depth, number } => {
+        Ok(Step::Advanced { depth, number }) => {
             let closed = close_all(query, lines, windows, progress.written);
             let progress = Progress {
                 over: progress.over,

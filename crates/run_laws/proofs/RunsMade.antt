@@ -1,8 +1,7 @@
 -- Every run's report is made of calls on a new query.
-use Rattle.std.proofs.Common.{◌≡◌, ℕ, zero, suc, ◌+◌, min, true, false, length, ap, ◌∙◌, subst, arith}
+use Rattle.std.proofs.Common.{◌≡◌, ℕ, zero, suc, ◌+◌, min, true, false, length, ap, ◌∙◌, subst, arith, Ok, Err}
 use Rattle.std.proofs.lemmas.Bool.{cond_both, lt-leb}
-use Rattle.refusals.specs.declared.ending.Ending.{Ending}
-use Rattle.refusals.specs.declared.ending.Ending.TheVariants.{End, Failed}
+use Rattle.refusals.specs.Faults.{Ending}
 use Rattle.refusals.specs.declared.fault.Side.{Side}
 use Rattle.receipts.specs.Histories.{events}
 use Rattle.receipts.specs.Laws.{left_by}
@@ -17,13 +16,13 @@ use Rattle.run_laws.proofs.Turns.{Sound, turn_sound}
 use Rattle.run_laws.proofs.TurnsLeft.{turns_left, none_left, both_over}
 
 abbrev Faulty : Ending → Type 0
-Faulty End = ⊥
-Faulty (Failed f) = Unit {0}
+Faulty (Ok tt) = ⊥
+Faulty (Err f) = Unit {0}
 
 module _ (s : Setup) (p : Places) (srcs : Both Stream) where
   -- an ending is END only where both sides have ended and no closing is allowed
   made_report : (x : RunState) (w : Ending) → Told s srcs x →
-      (w ≡ End → ((z : Side) → pick z x.over ≡ true) × (may_close s x.query ≡ false)) → Made s srcs (report x w)
+      (w ≡ Ok tt → ((z : Side) → pick z x.over ≡ true) × (may_close s x.query ≡ false)) → Made s srcs (report x w)
   made_report x w v all = record {
     calls = v.calls;
     lines = v.lines;
@@ -41,14 +40,14 @@ module _ (s : Setup) (p : Places) (srcs : Both Stream) where
       ((y : RunState) → Told s srcs y → turns_left y.rest y.over ≡ n → may_close s y.query ≡ false → Made s srcs (ran s p srcs n y)) →
       Sound s p srcs n t → Made s srcs (continued t (λ y. ran s p srcs n y))
   made_continued n (goes_on y) later sound = later y sound.0 sound.1 sound.2
-  made_continued n (stops y f) later sound = made_report y (Failed f) sound (λ ends. absurd (subst Faulty ends tt))
+  made_continued n (stops y f) later sound = made_report y (Err f) sound (λ ends. absurd (subst Faulty ends tt))
 
   made_ran : (n : ℕ) (x : RunState) → Told s srcs x → turns_left x.rest x.over ≡ n → may_close s x.query ≡ false →
       Made s srcs (ran s p srcs n x)
-  made_ran zero x v t quiet = made_report x End v (λ _. (none_left x.rest x.over t, quiet))
+  made_ran zero x v t quiet = made_report x (Ok tt) v (λ _. (none_left x.rest x.over t, quiet))
   made_ran (suc n) x v t quiet =
       cond_both _ _ _ (Made s srcs)
-      (λ all. made_report x End v (λ _. (both_over x.over all, quiet)))
+      (λ all. made_report x (Ok tt) v (λ _. (both_over x.over all, quiet)))
       (λ unended. made_continued n (turn s p srcs x) (λ y. made_ran n y) (turn_sound s p srcs n x v t quiet unended))
 
 pub runs_made : RunsMade

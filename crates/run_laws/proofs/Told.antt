@@ -1,7 +1,6 @@
 -- The state of a run comes of accepted calls on a new query, whose events are, side for side, those that were taken.
 use Rattle.std.proofs.Common.{◌≡◌, ℕ, true, false, leb, List, [], ◌∷◌, ◌++◌, length, Ok, sym, refl, ap, ◌∙◌, append_assoc, append-nil, arith}
 use Rattle.std.proofs.lemmas.Bool.{both_ways, le-leb, cond-true}
-use Rattle.refusals.specs.declared.ending.Ending.TheVariants.{End}
 use Rattle.refusals.specs.declared.fault.Side.{Side}
 use Rattle.refusals.specs.declared.fault.Side.TheVariants.{Left, Right}
 use Rattle.receipts.specs.Histories.{Entry, events}
@@ -25,7 +24,7 @@ pub record Told (s : Setup) (srcs : Both Stream) (x : RunState) : Type 0 where
   pub lines : lines_in (record_of s calls) ≡ x.lines
   pub windows : windows_in (record_of s calls) ≡ x.windows
   pub fronts : (z : Side) → events_on z (record_of s calls) ++ events (pick z x.rest) ≡ events_of z srcs
-  pub done : (z : Side) → pick z x.over ≡ true → (pick z x.rest ≡ []) × ((pick z srcs).ending ≡ End)
+  pub done : (z : Side) → pick z x.over ≡ true → (pick z x.rest ≡ []) × ((pick z srcs).ending ≡ Ok tt)
 
 closing_brings : (z : Side) (n : ℕ) → event_on z (closing n) ≡ []
 closing_brings Left n = refl
@@ -106,17 +105,17 @@ module _ (s : Setup) (srcs : Both Stream) where
               ∙ append_assoc (events_on z (record_of s v.calls)) (event_on z c) (events (pick z (put side es x.rest)))
               ∙ ap (λ zs. events_on z (record_of s v.calls) ++ zs) (event_brings z side x.rest e es next)
               ∙ v.fronts z;
-          done = each_put (λ z rest. pick z x.over ≡ true → (rest ≡ []) × ((pick z srcs).ending ≡ End)) side es x.rest
+          done = each_put (λ z rest. pick z x.over ≡ true → (rest ≡ []) × ((pick z srcs).ending ≡ Ok tt)) side es x.rest
               (λ over. absurd (both_ways (pick side x.over) still over)) v.done;
         }
 
-    pub told_ended : (side : Side) → pick side x.rest ≡ [] → (pick side srcs).ending ≡ End → Told s srcs (over_on side x)
+    pub told_ended : (side : Side) → pick side x.rest ≡ [] → (pick side srcs).ending ≡ Ok tt → Told s srcs (over_on side x)
     told_ended side none ends = record {
       calls = v.calls;
       query = v.query;
       lines = v.lines;
       windows = v.windows;
       fronts = v.fronts;
-      done = each_put (λ z over. over ≡ true → (pick z x.rest ≡ []) × ((pick z srcs).ending ≡ End)) side true x.over
+      done = each_put (λ z over. over ≡ true → (pick z x.rest ≡ []) × ((pick z srcs).ending ≡ Ok tt)) side true x.over
           (λ _. (none, ends)) v.done;
     }

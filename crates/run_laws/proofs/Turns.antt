@@ -1,8 +1,7 @@
 -- Each turn of a run leaves a state that comes of calls, from which no closing is allowed, and takes one of the turns left.
 use Rattle.std.proofs.Common.{◌≡◌, ℕ, zero, suc, ◌-◌, min, Bool, false, cond, ◌&&◌, leb, List, [], ◌∷◌, ◌++◌, length, Ok, Err, Result, refl, ap, ◌∙◌}
 use Rattle.std.proofs.lemmas.Bool.{cond_both}
-use Rattle.refusals.specs.declared.ending.Ending.{Ending}
-use Rattle.refusals.specs.declared.ending.Ending.TheVariants.{End, Failed}
+use Rattle.refusals.specs.Faults.{Ending}
 use Rattle.refusals.specs.declared.fault.Fault.{Fault}
 use Rattle.refusals.specs.declared.fault.Side.{Side}
 use Rattle.refusals.specs.declared.refusal.Refusal.{Refusal}
@@ -79,8 +78,8 @@ module _ (s : Setup) (p : Places) (srcs : Both Stream) where
     heard_sound e es next (Err why) refused = v
 
     ended_sound : (w : Ending) → (pick side srcs).ending ≡ w → pick side x.rest ≡ [] → Sound n (ended side w x)
-    ended_sound End ends none = (told_ended s srcs x v side none ends, ending_takes_one x.rest x.over side n none still t, quiet)
-    ended_sound (Failed f) ends none = v
+    ended_sound (Ok tt) ends none = (told_ended s srcs x v side none ends, ending_takes_one x.rest x.over side n none still t, quiet)
+    ended_sound (Err f) ends none = v
 
     take_sound : (rest : List Entry) → pick side x.rest ≡ rest → Sound n (take_from s p srcs x side rest)
     take_sound [] none = ended_sound (pick side srcs).ending refl none

@@ -1,7 +1,6 @@
 -- A report without fault over piles: what its calls accepted are the piled streams, whose histories have the rows of the
 -- rewritten ones.
-use Rattle.std.proofs.Common.{◌≡◌, List, [], ◌∷◌, ◌++◌, sym, refl, ap, ◌∙◌, subst, append-nil}
-use Rattle.refusals.specs.declared.ending.Ending.TheVariants.{End}
+use Rattle.std.proofs.Common.{◌≡◌, List, [], ◌∷◌, ◌++◌, sym, refl, ap, ◌∙◌, subst, append-nil, Ok}
 use Rattle.refusals.specs.declared.fault.Side.{Side}
 use Rattle.refusals.specs.declared.fault.Side.TheVariants.{Left, Right}
 use Rattle.rows.specs.Rows.{Plain}
@@ -23,7 +22,7 @@ use Rattle.run_laws.specs.Runs.{Report}
 use Rattle.run_laws.specs.Laws.{events_of, Made, piled, rewritten_histories, Lawful}
 
 -- at END the accepted events are all events
-pub all_events : (s : Setup) (srcs : Both Stream) (a : Report) (m : Made s srcs a) → a.ending ≡ End →
+pub all_events : (s : Setup) (srcs : Both Stream) (a : Report) (m : Made s srcs a) → a.ending ≡ Ok tt →
     (x : Side) → events_on x (record_of s m.calls) ≡ events_of x srcs
 all_events s srcs a m ends x =
     sym (append-nil (events_on x (record_of s m.calls)))
@@ -50,7 +49,7 @@ module _ (fs : Both (List Rule)) (srcs : Both Stream) where
       each_rewritten (λ x rows. Distinct rows)
       (λ x. through_distinct (pick x fs) (history_of (pick x srcs)) (history_distinct (events_of x srcs) (lawful x).0))
 
-  module _ (s : Setup) (a : Report) (lawful : Lawful fs srcs) (m : Made s (piled fs srcs) a) (ends : a.ending ≡ End) where
+  module _ (s : Setup) (a : Report) (lawful : Lawful fs srcs) (m : Made s (piled fs srcs) a) (ends : a.ending ≡ Ok tt) where
     pile_lawful : (x : Side) → LegalWith (rewritten_history (pick x fs) (pick x srcs)) (pile (pick x fs) (pick x srcs))
     pile_lawful x =
         piles_lawful (pick x fs) (pick x srcs) (lawful x).1 (lawful x).0

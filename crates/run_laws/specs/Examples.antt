@@ -4,12 +4,10 @@
 --     hall_rules                  a rule for each side
 --     hall_run p                  the run, with the places p
 --     Examples                    its report, the faults that it and runs like it tell, and that the laws of runs speak of it
-use Rattle.std.specs.Prelude.{◌≡◌, ℕ, List, [], ◌∷◌}
-use Rattle.refusals.specs.declared.ending.Ending.{Ending}
-use Rattle.refusals.specs.declared.ending.Ending.TheVariants.{End, Failed}
+use Rattle.std.specs.Prelude.{◌≡◌, ℕ, List, [], ◌∷◌, Ok, Err}
 use Rattle.refusals.specs.declared.fault.Side.TheVariants.{Left, Right}
 use Rattle.refusals.specs.declared.refusal.Refusal.TheVariants.{BadByte, CtiViolated, WindowsFull, LinesFull}
-use Rattle.refusals.specs.Faults.{event_fault, on_side, at_cti}
+use Rattle.refusals.specs.Faults.{event_fault, on_side, at_cti, Ending}
 use Rattle.rows.specs.Events.{insert, retraction, cti}
 use Rattle.rows.specs.Kinds.{Kind}
 use Rattle.rows.specs.Times.{forever}
@@ -39,10 +37,10 @@ abbrev pub hall_streams : Both Stream
 hall_streams = record {
   left = stream (
       (1, insert (row 1 10 forever 7 2)) ∷ (2, insert (row 2 20 60 8 1)) ∷ (3, cti 50)
-      ∷ (4, retraction (row 1 10 forever 7 2) 150) ∷ (5, cti 210) ∷ []) End;
+      ∷ (4, retraction (row 1 10 forever 7 2) 150) ∷ (5, cti 210) ∷ []) (Ok tt);
   right = stream (
       (1, insert (row 1 15 forever 7 4095)) ∷ (2, cti 40) ∷ (3, retraction (row 1 15 forever 7 4095) 90)
-      ∷ (4, insert (row 2 90 forever 7 1000)) ∷ (5, insert (row 3 95 300 8 10)) ∷ (6, cti 205) ∷ []) End;
+      ∷ (4, insert (row 2 90 forever 7 1000)) ∷ (5, insert (row 3 95 300 8 10)) ∷ (6, cti 205) ∷ []) (Ok tt);
 }
 
 -- any value
@@ -78,30 +76,30 @@ HallReport = hall_run (places 1024 1024) ≡ record {
   windows = window 0 100 2 1 1 1 ∷ window 100 200 1 1 1 0 ∷ [];
   closed = 200;
   held = record { left = 0; right = 2 };
-  ending = End;
+  ending = Ok tt;
 }
 
 -- The second closing comes after the left's fifth event, and the query stands one above the rule.
 abbrev pub PlacesMissing : Type 0
 PlacesMissing =
-    ((hall_run (places 1 1024)).ending ≡ Failed (on_side Left (event_fault LinesFull 2 5)))
-    × ((hall_run (places 1024 1)).ending ≡ Failed (on_side Left (event_fault WindowsFull 2 5)))
+    ((hall_run (places 1 1024)).ending ≡ Err (on_side Left (event_fault LinesFull 2 5)))
+    × ((hall_run (places 1024 1)).ending ≡ Err (on_side Left (event_fault WindowsFull 2 5)))
 
 -- an ending that a reader of the source tells
 abbrev pub broken : Ending
-broken = Failed (event_fault BadByte 0 2)
+broken = Err (event_fault BadByte 0 2)
 
 -- A late event tells the CTI that it violates; a source's fault is told as it is, on its side, once the source comes to it.
 abbrev pub SourcesAtFault : Type 0
 SourcesAtFault =
     ((run hall (places 1024 1024) (piled hall_rules (record {
-      left = stream ((1, cti 50) ∷ (2, insert (row 1 40 60 7 2)) ∷ []) End;
-      right = stream ((1, cti 60) ∷ []) End;
-    }))).ending ≡ Failed (on_side Left (at_cti 50 (event_fault CtiViolated 2 2))))
+      left = stream ((1, cti 50) ∷ (2, insert (row 1 40 60 7 2)) ∷ []) (Ok tt);
+      right = stream ((1, cti 60) ∷ []) (Ok tt);
+    }))).ending ≡ Err (on_side Left (at_cti 50 (event_fault CtiViolated 2 2))))
     × ((run hall (places 1024 1024) (piled hall_rules (record {
-      left = stream ((1, cti 50) ∷ (2, insert (row 1 50 60 7 2)) ∷ []) End;
+      left = stream ((1, cti 50) ∷ (2, insert (row 1 50 60 7 2)) ∷ []) (Ok tt);
       right = stream ((1, cti 60) ∷ []) broken;
-    }))).ending ≡ Failed (on_side Right (event_fault BadByte 0 2)))
+    }))).ending ≡ Err (on_side Right (event_fault BadByte 0 2)))
 
 abbrev pub Examples : Type 0
 Examples = HallReport × PlacesMissing × SourcesAtFault × Lawful hall_rules hall_streams

@@ -17,8 +17,7 @@
 --     RunsAccounted               a run over any streams that ends without fault is accounted for
 --     RunsDetermined              a run's lines and counts depend on the rewritten histories up to its closed time alone
 --     RunsStand                   the first four together, of the run itself
-use Rattle.std.specs.Prelude.{◌≡◌, ℕ, ◌+◌, ◌*◌, ◌<◌, ◌≤◌, min, false, List, [], ◌∷◌, ◌++◌, length}
-use Rattle.refusals.specs.declared.ending.Ending.TheVariants.{End}
+use Rattle.std.specs.Prelude.{◌≡◌, ℕ, ◌+◌, ◌*◌, ◌<◌, ◌≤◌, min, false, List, [], ◌∷◌, ◌++◌, length, Ok}
 use Rattle.refusals.specs.declared.fault.Side.{Side}
 use Rattle.rows.specs.Rows.{Plain}
 use Rattle.rows.specs.Events.{PlainEvent}
@@ -46,8 +45,8 @@ pub record Made (s : Setup) (srcs : Both Stream) (a : Report) : Type 0 where
   pub held : (x : Side) → length (pick x (left_by s calls).halves).held ≡ pick x a.held
   pub left : Side → List PlainEvent
   pub fronts : (x : Side) → events_on x (record_of s calls) ++ left x ≡ events_of x srcs
-  pub whole : a.ending ≡ End →
-      ((x : Side) → (left x ≡ []) × ((pick x srcs).ending ≡ End)) × (may_close s (left_by s calls) ≡ false)
+  pub whole : a.ending ≡ Ok tt →
+      ((x : Side) → (left x ≡ []) × ((pick x srcs).ending ≡ Ok tt)) × (may_close s (left_by s calls) ≡ false)
 
 abbrev pub RunsMade : Type 0
 RunsMade = (s : Setup) (p : Places) (srcs : Both Stream) → 0 < s.width → Made s srcs (run s p srcs)
@@ -68,7 +67,7 @@ Lawful fs srcs = (x : Side) → Legal (events_of x srcs) × AllKeep (pick x fs)
 
 abbrev pub RunsExact : Type 0
 RunsExact = (s : Setup) (fs : Both (List Rule)) (srcs : Both Stream) (a : Report) → 0 < s.width →
-    Lawful fs srcs → Made s (piled fs srcs) a → a.ending ≡ End →
+    Lawful fs srcs → Made s (piled fs srcs) a → a.ending ≡ Ok tt →
     Exactly s.kinds a.closed (rewritten_histories fs srcs) a.lines
 
 abbrev pub Counted : Both (List Plain) → List Window → Type 0
@@ -76,7 +75,7 @@ Counted hs ws = (w : Window) → In w ws → w.count ≡ count_in w.start w.end 
 
 abbrev pub RunsCounted : Type 0
 RunsCounted = (s : Setup) (fs : Both (List Rule)) (srcs : Both Stream) (a : Report) → 0 < s.width →
-    Lawful fs srcs → Made s (piled fs srcs) a → a.ending ≡ End →
+    Lawful fs srcs → Made s (piled fs srcs) a → a.ending ≡ Ok tt →
     Counted (rewritten_histories fs srcs) a.windows
 
 -- c where there is none
@@ -96,14 +95,14 @@ pub record Accounted (s : Setup) (srcs : Both Stream) (a : Report) : Type 0 wher
   pub no_more : last_ctis srcs < a.closed + s.width
 
 abbrev pub RunsAccounted : Type 0
-RunsAccounted = (s : Setup) (srcs : Both Stream) (a : Report) → Made s srcs a → a.ending ≡ End → Accounted s srcs a
+RunsAccounted = (s : Setup) (srcs : Both Stream) (a : Report) → Made s srcs a → a.ending ≡ Ok tt → Accounted s srcs a
 
 -- Two runs of one width and the same payload kinds, over any streams, rules, capacities and places, that come to one closed
 -- time: where side for side the rewritten histories up to it have the same rows, lines and counts are equal, each in order.
 abbrev pub RunsDetermined : Type 0
 RunsDetermined = (s t : Setup) (fs gs : Both (List Rule)) (srcs others : Both Stream) (a b : Report) → 0 < s.width →
     s.width ≡ t.width → s.kinds ≡ t.kinds → Lawful fs srcs → Lawful gs others →
-    Made s (piled fs srcs) a → Made t (piled gs others) b → a.ending ≡ End → b.ending ≡ End → a.closed ≡ b.closed →
+    Made s (piled fs srcs) a → Made t (piled gs others) b → a.ending ≡ Ok tt → b.ending ≡ Ok tt → a.closed ≡ b.closed →
     ((x : Side) → SameMembers
     (up_to a.closed (pick x (rewritten_histories fs srcs)))
     (up_to a.closed (pick x (rewritten_histories gs others)))) →
@@ -120,4 +119,4 @@ pub record Stands (s : Setup) (fs : Both (List Rule)) (srcs : Both Stream) (a : 
 -- A run over any two legal streams, each under any pile of rules that keep their laws, which ends without fault.
 abbrev pub RunsStand : Type 0
 RunsStand = (s : Setup) (p : Places) (fs : Both (List Rule)) (srcs : Both Stream) → 0 < s.width →
-    Lawful fs srcs → (run s p (piled fs srcs)).ending ≡ End → Stands s fs srcs (run s p (piled fs srcs))
+    Lawful fs srcs → (run s p (piled fs srcs)).ending ≡ Ok tt → Stands s fs srcs (run s p (piled fs srcs))

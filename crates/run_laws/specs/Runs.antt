@@ -7,14 +7,12 @@
 --     turn s p srcs x             one event or one ending taken
 --     run s p srcs                the report of a run over two streams
 use Rattle.std.specs.Prelude.{ℕ, zero, suc, ◌+◌, ◌-◌, Bool, true, false, cond, not, ◌&&◌, ◌||◌, List, [], ◌∷◌, ◌++◌, length, Some, Ok, Err, Result, nat_le}
-use Rattle.refusals.specs.declared.ending.Ending.{Ending}
-use Rattle.refusals.specs.declared.ending.Ending.TheVariants.{End, Failed}
 use Rattle.refusals.specs.declared.fault.Fault.{Fault}
 use Rattle.refusals.specs.declared.fault.Side.{Side}
 use Rattle.refusals.specs.declared.fault.Side.TheVariants.{Left, Right}
 use Rattle.refusals.specs.declared.refusal.Refusal.{Refusal}
 use Rattle.refusals.specs.declared.refusal.Refusal.TheVariants.{WindowsFull, LinesFull}
-use Rattle.refusals.specs.Faults.{event_fault, on_side}
+use Rattle.refusals.specs.Faults.{event_fault, on_side, Ending}
 use Rattle.rows.specs.Events.{PlainEvent, insert, retraction, cti}
 use Rattle.receipts.specs.declared.line.Line.{Line}
 use Rattle.receipts.specs.declared.window.Window.{Window}
@@ -110,8 +108,8 @@ abbrev pub over_on : Side → RunState → RunState
 over_on side x = record { query = x.query; rest = x.rest; over = put side true x.over; lines = x.lines; windows = x.windows }
 
 abbrev pub ended : Side → Ending → RunState → Turn
-ended side End x = goes_on (over_on side x)
-ended side (Failed f) x = stops x (on_side side f)
+ended side (Ok tt) x = goes_on (over_on side x)
+ended side (Err f) x = stops x (on_side side f)
 
 abbrev pub take_from : Setup → Places → Both Stream → RunState → Side → List Entry → Turn
 take_from s p srcs x side [] = ended side (pick side srcs).ending x
@@ -139,13 +137,13 @@ report x w = record {
 
 abbrev pub continued : Turn → (RunState → Report) → Report
 continued (goes_on x) go = go x
-continued (stops x f) go = report x (Failed f)
+continued (stops x f) go = report x (Err f)
 
 -- at most n turns, until both sources have ended or a fault is met
 abbrev pub ran : Setup → Places → Both Stream → ℕ → RunState → Report
-ran s p srcs zero x = report x End
+ran s p srcs zero x = report x (Ok tt)
 ran s p srcs (suc n) x =
-    cond (x.over.left && x.over.right) (report x End) (continued (turn s p srcs x) (λ y. ran s p srcs n y))
+    cond (x.over.left && x.over.right) (report x (Ok tt)) (continued (turn s p srcs x) (λ y. ran s p srcs n y))
 
 abbrev pub started : Both Stream → RunState
 started srcs = record {

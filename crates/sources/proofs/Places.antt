@@ -1,7 +1,6 @@
 -- Taking from a slice of events: at a place within it, and past its end.
-use Rattle.std.proofs.Common.{◌≡◌, ℕ, ◌+◌, ◌<◌, ◌≤◌, List, length, get_or, sym, ◌∙◌}
+use Rattle.std.proofs.Common.{◌≡◌, ℕ, ◌+◌, ◌<◌, ◌≤◌, List, length, get_or, sym, ◌∙◌, Ok}
 use Rattle.std.proofs.lemmas.List.{at_drop_more, at_drop_all}
-use Rattle.refusals.specs.declared.ending.Ending.TheVariants.{End}
 use Rattle.rows.specs.declared.event.Event.{Event}
 use Rattle.rows.specs.Events.{plain_event}
 use Rattle.rows.specs.Kinds.{Pair}
@@ -11,10 +10,10 @@ use Rattle.sources.specs.Listing.{numbered, listed_stream}
 
 -- the stream of what is left, the first under the number n
 abbrev left : {P : Type 0} → (P → Pair) → ℕ → List (Event P) → Stream
-left pair n es = record { entries = numbered pair n es; ending = End; depth = 0 }
+left pair n es = record { entries = numbered pair n es; ending = Ok tt; depth = 0 }
 
 module _ {P : Type 0} (pair : P → Pair) (es : List (Event P)) (i : ℕ) where
-  pub past_value : length es ≤ i → ended End ≡ next_in (listed_stream pair es i)
+  pub past_value : length es ≤ i → ended (Ok tt) ≡ next_in (listed_stream pair es i)
   past_value h = sym (at_drop_all (λ xs. next_in (left pair (i + 1) xs)) es i h)
 
   pub past_after : length es ≤ i → listed_stream pair es i ≡ rest_of (listed_stream pair es i)

@@ -5,15 +5,15 @@ ghost use Rattle.rewriting.specs.Rules.{Rule, AllKeep};
 ghost use Rattle.rewriting.specs.Streams.{Stream};
 ghost use Rattle.sources.specs.Taking.{next_in, rest_of, taken_as};
 
-use refusals::ending::Ending;
+use refusals::fault::Fault;
 use rows::event::Event;
 use rows::payload::Payload;
 
-// What taking from a source gives: the next event under its number, or the ending.
-#[derive(Clone, Copy)]
-pub enum Taken<P> {
-    Next { number: u64, event: Event<P> },
-    Ended(Ending),
+// An event of a source, under its number.
+#[derive(Clone, Copy, PartialEq, Eq, Debug)]
+pub struct Numbered<P> {
+    pub number: u64,
+    pub event: Event<P>,
 }
 
 // A source means its remaining numbered events, its ending and its depth. That is what the rules of its layers, lowest
@@ -32,8 +32,9 @@ pub trait Source {
 
     ghost piled: { (x : Self) → stream x ≡ pile (rules x) (foot x) };
 
-    // Takes the first event and leaves the rest. Where none is left it gives the ending, and changes nothing.
-    fn take(&mut self) -> Taken<Self::Payload>
+    // Takes the first event and leaves the rest. Where none is left it gives None, or the fault that the source ends with, and
+    // changes nothing.
+    fn take(&mut self) -> Result<Option<Numbered<Self::Payload>>, Fault>
         ensures value { taken_as Self.Payload.Payload.pair result ≡ next_in (stream self.old) }
         ensures after { stream self.new ≡ rest_of (stream self.old) };
 

@@ -6,12 +6,11 @@ ghost use Rattle.files.specs.Readers.{reader_stream};
 use crate::form::Form;
 use crate::judging::event_of;
 use crate::reader::{LONGEST, Reader, State};
-use refusals::ending::Ending;
 use refusals::fault::Fault;
 use refusals::refusal::Refusal;
 use rows::event::Event;
 use rows::payload::Payload;
-use sources::source::{Source, Taken};
+use sources::source::{Numbered, Source};
 use std::marker::PhantomData;
 
 // The event that the bytes begin with, and the bytes after it.
@@ -80,27 +79,27 @@ impl<'a, F: Form, P: Payload> Source for Reader<'a, F, P> {
 
     ghost piled = { λ _. refl };
 
-    fn take(&mut self) -> Taken<P> {
+    fn take(&mut self) -> Result<Option<Numbered<P>>, Fault> {
         match (self.state, self.next()) {
             (State::Reading, Some(left)) => match read_event::<F, P>(left) {
                 Ok((event, after)) => {
                     let number = self.number;
                     self.place = self.bytes.len() - after.len();
                     self.number = number + 1;
-                    Taken::Next { number, event }
+                    Ok(Some(Numbered { number, event }))
                 }
                 Err(refusal) => {
                     let fault = Fault::at_event(refusal, 0, self.number);
                     self.state = State::Failed(fault);
-                    Taken::Ended(Ending::Failed(fault))
+                    Err(fault)
                 }
             },
             (State::Reading, None) => {
                 self.state = State::Ended;
-                Taken::Ended(Ending::End)
+                Ok(None)
             }
-            (State::Ended, _) => Taken::Ended(Ending::End),
-            (State::Failed(fault), _) => Taken::Ended(Ending::Failed(fault)),
+            (State::Ended, _) => Ok(None),
+            (State::Failed(fault), _) => Err(fault),
         }
     }
 

@@ -4,8 +4,8 @@ ghost use Rattle.rewriting.specs.Layers.{pile};
 ghost use Rattle.sources.specs.Listing.{listed_stream};
 
 use crate::listed::Listed;
-use crate::source::{Source, Taken};
-use refusals::ending::Ending;
+use crate::source::{Numbered, Source};
+use refusals::fault::Fault;
 use rows::event::Event;
 use rows::payload::Payload;
 
@@ -31,17 +31,17 @@ impl<'a, P: Payload> Source for Listed<'a, P> {
 
     ghost piled = { λ _. refl };
 
-    fn take(&mut self) -> Taken<P> {
+    fn take(&mut self) -> Result<Option<Numbered<P>>, Fault> {
         let place = self.place;
         if place >= self.events.len() {
-            return Taken::Ended(Ending::End);
+            return Ok(None);
         }
         let event = self.events[place];
         self.place = place + 1;
-        Taken::Next {
+        Ok(Some(Numbered {
             number: place as u64 + 1,
             event,
-        }
+        }))
     }
 
     fn depth(&self) -> u32 {
