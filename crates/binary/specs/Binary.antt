@@ -7,7 +7,8 @@ use Rattle.refusals.specs.declared.refusal.Refusal.TheVariants.{CutOff, BadByte}
 use Rattle.files.specs.declared.fields.EndField.{EndField}
 use Rattle.files.specs.declared.fields.Fields.{Fields}
 use Rattle.files.specs.Judging.{field_of}
-use Rattle.files.specs.Orders.{Part, bind, insert_by, retraction_by, cti_by}
+use Rattle.refusals.specs.Parts.{Part}
+use Rattle.files.specs.Orders.{bind, insert_by, retraction_by, cti_by}
 use Rattle.groups.specs.Groups.{groups_read}
 
 abbrev pub end_read : List ℕ → Part EndField

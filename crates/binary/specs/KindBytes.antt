@@ -5,7 +5,8 @@ use Rattle.std.proofs.lemmas.Bool.{cases_eq, ne_eqb, cond-false}
 use Rattle.refusals.specs.declared.refusal.Refusal.TheVariants.{BadByte}
 use Rattle.files.specs.declared.fields.Fields.{Fields}
 use Rattle.files.specs.Judging.{field_of}
-use Rattle.files.specs.Orders.{Part, insert_by, retraction_by, cti_by}
+use Rattle.refusals.specs.Parts.{Part}
+use Rattle.files.specs.Orders.{insert_by, retraction_by, cti_by}
 use Rattle.files.specs.Reading.{Ends}
 use Rattle.files.proofs.Binding.{Shortens, ends_cons, made_ends, insert_ends, retraction_ends, cti_ends}
 use Rattle.groups.specs.Groups.{groups_read}

@@ -1,13 +1,14 @@
 // Reading the fields of an event in binary: the byte of its kind, then its numbers in groups.
 ghost use Rattle.std.specs.Prelude.{◌≡◌};
-ghost use Rattle.files.specs.Orders.{part_as, head_by, pair_by, insert_by, retraction_by, cti_by};
+ghost use Rattle.refusals.specs.Parts.{told};
+ghost use Rattle.files.specs.Orders.{head_by, pair_by, insert_by, retraction_by, cti_by};
 ghost use Rattle.groups.specs.Groups.{groups_read};
 ghost use Rattle.binary.specs.Binary.{end_read, binary_read};
 ghost use Rattle.binary.specs.KindBytes.{binary_ends};
 
 use files::fields::{EndField, Fields, RowFields};
 use files::form::Form;
-use groups::{groups, groups_fault};
+use groups::read_groups;
 use refusals::refusal::Refusal;
 use rows::span::FOREVER;
 
@@ -18,20 +19,11 @@ pub const RETRACTION: u8 = 2;
 
 pub const CTI: u8 = 3;
 
-fn number(bytes: &[u8]) -> Result<(u32, &[u8]), Refusal>
-    ensures { part_as result ≡ groups_read bytes.now }
-{
-    match groups_fault(bytes) {
-        Some(refusal) => Err(refusal),
-        None => Ok(groups(bytes)),
-    }
-}
-
 // The end FOREVER is its number.
 fn end(bytes: &[u8]) -> Result<(EndField, &[u8]), Refusal>
-    ensures { part_as result ≡ end_read bytes.now }
+    ensures { told result ≡ end_read bytes.now }
 {
-    let (time, rest) = number(bytes)?;
+    let (time, rest) = read_groups(bytes)?;
     if time == FOREVER {
         Ok((EndField::Forever, rest))
     } else {
@@ -41,25 +33,25 @@ fn end(bytes: &[u8]) -> Result<(EndField, &[u8]), Refusal>
 
 // Id, start and end.
 fn head(bytes: &[u8]) -> Result<((u32, u32, EndField), &[u8]), Refusal>
-    ensures { part_as result ≡ head_by groups_read end_read bytes.now }
+    ensures { told result ≡ head_by groups_read end_read bytes.now }
 {
-    let (id, rest) = number(bytes)?;
-    let (start, rest) = number(rest)?;
+    let (id, rest) = read_groups(bytes)?;
+    let (start, rest) = read_groups(rest)?;
     let (end, rest) = end(rest)?;
     Ok(((id, start, end), rest))
 }
 
 // Key and value.
 fn pair(bytes: &[u8]) -> Result<((u32, u32), &[u8]), Refusal>
-    ensures { part_as result ≡ pair_by groups_read bytes.now }
+    ensures { told result ≡ pair_by groups_read bytes.now }
 {
-    let (key, rest) = number(bytes)?;
-    let (value, rest) = number(rest)?;
+    let (key, rest) = read_groups(bytes)?;
+    let (value, rest) = read_groups(rest)?;
     Ok(((key, value), rest))
 }
 
 fn insert(bytes: &[u8]) -> Result<(Fields, &[u8]), Refusal>
-    ensures { part_as result ≡ insert_by groups_read end_read bytes.now }
+    ensures { told result ≡ insert_by groups_read end_read bytes.now }
 {
     let ((id, start, end), rest) = head(bytes)?;
     let ((key, value), rest) = pair(rest)?;
@@ -76,7 +68,7 @@ fn insert(bytes: &[u8]) -> Result<(Fields, &[u8]), Refusal>
 }
 
 fn retraction(bytes: &[u8]) -> Result<(Fields, &[u8]), Refusal>
-    ensures { part_as result ≡ retraction_by groups_read end_read bytes.now }
+    ensures { told result ≡ retraction_by groups_read end_read bytes.now }
 {
     let ((id, start, old_end), rest) = head(bytes)?;
     let (new_end, rest) = end(rest)?;
@@ -97,9 +89,9 @@ fn retraction(bytes: &[u8]) -> Result<(Fields, &[u8]), Refusal>
 }
 
 fn cti(bytes: &[u8]) -> Result<(Fields, &[u8]), Refusal>
-    ensures { part_as result ≡ cti_by groups_read bytes.now }
+    ensures { told result ≡ cti_by groups_read bytes.now }
 {
-    let (time, rest) = number(bytes)?;
+    let (time, rest) = read_groups(bytes)?;
     Ok((Fields::Cti(time), rest))
 }
 

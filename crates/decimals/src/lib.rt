@@ -2,7 +2,8 @@
 #![tactic(auto)]
 
 ghost use Rattle.std.specs.Prelude.{◌≡◌};
-ghost use Rattle.decimals.specs.Decimals.{digit, digit_first, leading_zero, with_digit, taken, decimal_fault, DecimalExact};
+ghost use Rattle.refusals.specs.Parts.{told};
+ghost use Rattle.decimals.specs.Decimals.{digit, digit_first, leading_zero, with_digit, taken, decimal_fault, decimal_read, DecimalExact};
 ghost use Rattle.decimals.specs.Examples.{DecimalExamples};
 
 use refusals::refusal::Refusal;
@@ -10,24 +11,21 @@ use refusals::refusal::Refusal;
 fn is_digit(b: u8) -> bool
     ensures { result ≡ digit b }
 {
-    b'0' <= b && b <= b'9'
+    b.is_ascii_digit()
 }
 
 fn begins_with_digit(bytes: &[u8]) -> bool
     ensures { result ≡ digit_first bytes.now }
 {
-    match bytes {
-        [first, ..] => is_digit(*first),
-        [] => false,
-    }
+    matches!(bytes, [first, ..] if is_digit(*first))
 }
 
 fn has_leading_zero(bytes: &[u8]) -> bool
     ensures { result ≡ leading_zero bytes.now }
 {
     match bytes {
-        [first, after @ ..] => *first == b'0' && begins_with_digit(after),
-        [] => false,
+        [b'0', after @ ..] => begins_with_digit(after),
+        _ => false,
     }
 }
 
@@ -38,12 +36,7 @@ fn with_digit(value: u32, b: u8) -> Option<u32>
     if !is_digit(b) {
         return None;
     }
-    let more = 10 * value as u64 + (b - b'0') as u64;
-    if more <= u32::MAX as u64 {
-        Some(more as u32)
-    } else {
-        None
-    }
+    value.checked_mul(10)?.checked_add(u32::from(b - b'0'))
 }
 
 // Takes the digits at the front as far as the number stays at most 4,294,967,295: the number, and the bytes after them.
@@ -82,9 +75,17 @@ pub fn decimal_fault(bytes: &[u8]) -> Option<Refusal>
     }
 }
 
-// Texts that are read as numbers, and texts that are refused.
-pub fn decimal_examples() -> u8
-    ensures { DecimalExamples }
+// The number that the bytes begin with and the bytes after it, or why they do not begin with one.
+pub fn read_decimal(bytes: &[u8]) -> Result<(u32, &[u8]), Refusal>
+    ensures { told result ≡ decimal_read bytes.now }
 {
-    0
+    match decimal_fault(bytes) {
+        Some(refusal) => Err(refusal),
+        None => Ok(decimal(bytes)),
+    }
 }
+
+// Texts that are read as numbers, and texts that are refused.
+pub fn decimal_examples()
+    ensures { DecimalExamples }
+{}

@@ -3,7 +3,8 @@ use Rattle.std.proofs.Common.{◌≡◌, ℕ, List, ◌∷◌, ◌++◌, Ok, Err
 use Rattle.std.proofs.lemmas.List.{append_assoc, length-append}
 use Rattle.files.specs.declared.fields.EndField.{EndField}
 use Rattle.files.specs.declared.fields.Fields.TheVariants.{Insert, Retraction, Cti}
-use Rattle.files.specs.Orders.{Part, bind, head_by, pair_by, row_from, insert_by, retraction_by, cti_by}
+use Rattle.refusals.specs.Parts.{Part}
+use Rattle.files.specs.Orders.{bind, head_by, pair_by, row_from, insert_by, retraction_by, cti_by}
 use Rattle.files.specs.Reading.{Ends}
 
 pub ok_parts : {A : Type 0} (a b : A) (xs bs : List ℕ) → ◌≡◌ {A = Part A} (Ok (a, xs)) (Ok (b, bs)) → (a ≡ b) × (xs ≡ bs)

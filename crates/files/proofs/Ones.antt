@@ -6,7 +6,7 @@ use Rattle.rows.specs.Events.{PlainEvent, timely}
 use Rattle.rows.specs.Kinds.{Kind}
 use Rattle.files.specs.declared.fields.Fields.{Fields}
 use Rattle.files.specs.Judging.{payload_fits, judged, fields_of}
-use Rattle.files.specs.Orders.{Part}
+use Rattle.refusals.specs.Parts.{Part}
 use Rattle.files.specs.Reading.{Reads, Ends, One, event, fault, before, one_of, one}
 use Rattle.files.proofs.Exact.{judged_fields}
 

@@ -1,24 +1,14 @@
 -- The fields of an event in their order, for any way to read a number and an end.
---     Part A                  a part of a file of type A and the bytes after it, or a refusal
---     part_as r               the answer r of a call that reads a part, with the bytes that its reference points to
 --     bind r go               go at the part r and the bytes after it, or the refusal
 --     head_by number end      id, start and end
 --     pair_by number          key and value
 --     insert_by number end, retraction_by number end, cti_by number     the fields of each kind of event
-use Rattle.std.specs.Prelude.{ℕ, List, Ok, Err, Result}
-use Rattle.std.specs.Borrow.{Bor}
-use Rattle.refusals.specs.declared.refusal.Refusal.{Refusal}
+use Rattle.std.specs.Prelude.{ℕ, List, Ok, Err}
+use Rattle.refusals.specs.Parts.{Part}
 use Rattle.files.specs.declared.fields.EndField.{EndField}
 use Rattle.files.specs.declared.fields.RowFields.{RowFields}
 use Rattle.files.specs.declared.fields.Fields.{Fields}
 use Rattle.files.specs.declared.fields.Fields.TheVariants.{Insert, Retraction, Cti}
-
-abbrev pub Part : Type 0 → Type 0
-Part A = Result (A × List ℕ) Refusal
-
-abbrev pub part_as : {A : Type 0} → Result (A × Bor (List ℕ)) Refusal → Part A
-part_as (Ok p) = Ok (p.0, p.1.now)
-part_as (Err r) = Err r
 
 abbrev pub bind : {A B : Type 0} → Part A → (A → List ℕ → Part B) → Part B
 bind (Ok p) go = go p.0 p.1

@@ -25,7 +25,7 @@ use Rattle.receipts.specs.Histories.{Entry}
 use Rattle.rewriting.specs.Streams.{Stream}
 use Rattle.files.specs.declared.fields.Fields.{Fields}
 use Rattle.files.specs.Judging.{payload_fits, judged, fields_of}
-use Rattle.files.specs.Orders.{Part}
+use Rattle.refusals.specs.Parts.{Part}
 
 abbrev pub Reads : Type 0
 Reads = List ℕ → Part Fields

@@ -1,7 +1,7 @@
 // The interface of a file form.
 ghost use Rattle.std.specs.Prelude.{◌≡◌, ℕ, List, Ok};
 ghost use Rattle.files.specs.declared.fields.Fields.{Fields as Held};
-ghost use Rattle.files.specs.Orders.{part_as};
+ghost use Rattle.refusals.specs.Parts.{told};
 ghost use Rattle.files.specs.Reading.{Reads, Ends};
 
 use crate::fields::Fields;
@@ -14,7 +14,7 @@ pub trait Form: Copy {
 
     // The fields of the event that the bytes begin with and the bytes after it; else CutOff, BadByte or BadNumber.
     fn fields(bytes: &[u8]) -> Result<(Fields, &[u8]), Refusal>
-        ensures { part_as result ≡ read bytes.now };
+        ensures { told result ≡ read bytes.now };
 
     ghost ends: { (bs rest : List ℕ) (f : Held) → read bs ≡ Ok (f, rest) → Ends rest bs };
 }

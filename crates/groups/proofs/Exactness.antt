@@ -3,7 +3,8 @@ use Rattle.std.proofs.Common.{◌≡◌, ℕ, zero, suc, ◌+◌, ◌-◌, ◌*�
 use native.Mathlib.Nat.{pow-succ'}
 use Rattle.std.proofs.lemmas.Bool.{lt-ltb, le-ltb, cond-true, cond-false, cases_lt, cases_Bool, leb-true}
 use Rattle.refusals.specs.declared.refusal.Refusal.TheVariants.{BadNumber}
-use Rattle.groups.specs.Groups.{Read, onto, read_up_to, groups_read, groups_up_to, groups_of, Bytes, Written, GroupsExact}
+use Rattle.refusals.specs.Parts.{Part}
+use Rattle.groups.specs.Groups.{onto, read_up_to, groups_read, groups_up_to, groups_of, Bytes, Written, GroupsExact}
 use Rattle.groups.specs.Puts.{put_all, put, ReadsBack}
 use Rattle.groups.proofs.Reading.{ok_parts, onto_zero, onto_some, limit_some}
 use Rattle.groups.proofs.Writing.{up_to_last, up_to_more}
@@ -30,12 +31,12 @@ abbrev Spells : ℕ → ℕ → List ℕ → List ℕ → Type 0
 Spells i n rest bs = (n < 16 * 128 ^ i) × (bs ≡ groups_up_to i n ++ rest)
 
 -- the groups after b are those of m
-onto_spells : (i b n : ℕ) (bs rest : List ℕ) (r : Read) → 128 ≤ b → b < 256 → ((m : ℕ) (after : List ℕ) → r ≡ Ok (m, after) → Spells i m after bs) → onto b r ≡ Ok (n, rest) → Spells (suc i) n rest (b ∷ bs)
+onto_spells : (i b n : ℕ) (bs rest : List ℕ) (r : Part ℕ) → 128 ≤ b → b < 256 → ((m : ℕ) (after : List ℕ) → r ≡ Ok (m, after) → Spells i m after bs) → onto b r ≡ Ok (n, rest) → Spells (suc i) n rest (b ∷ bs)
 onto_spells i b n bs rest (Err r) lo hi hyp e = absurd (let z : ◌≡◌ {A = ℕ} 0 1 = cc in omega arith)
 onto_spells i b n bs rest (Ok p) lo hi hyp e =
     let ih = hyp p.0 p.1 refl in
-    let some : p.0 ≡ 0 → ⊥ = λ z. (let f : ◌≡◌ {A = Read} (Err BadNumber) (Ok (n, rest)) = sym (onto_zero b p.0 p.1 z) ∙ e in let o : ◌≡◌ {A = ℕ} 0 1 = cc in omega arith) in
-    let f : ◌≡◌ {A = Read} (Ok (b - 128 + 128 * p.0, p.1)) (Ok (n, rest)) = sym (onto_some b p.0 p.1 some) ∙ e in
+    let some : p.0 ≡ 0 → ⊥ = λ z. (let f : ◌≡◌ {A = Part ℕ} (Err BadNumber) (Ok (n, rest)) = sym (onto_zero b p.0 p.1 z) ∙ e in let o : ◌≡◌ {A = ℕ} 0 1 = cc in omega arith) in
+    let f : ◌≡◌ {A = Part ℕ} (Ok (b - 128 + 128 * p.0, p.1)) (Ok (n, rest)) = sym (onto_some b p.0 p.1 some) ∙ e in
     let g = ok_parts (b - 128 + 128 * p.0, p.1) (n, rest) f in
     let x : b - 128 + 128 * p.0 ≡ n = g.0 in
     let y : p.1 ≡ rest = g.1 in
@@ -56,19 +57,19 @@ read_up_to_spells i n [] rest a e = absurd (let z : ◌≡◌ {A = ℕ} 0 1 = cc
 read_up_to_spells zero n (b ∷ bs) rest a e =
     elim (cases_lt b 16) [
       | inl p ↦
-          let f : ◌≡◌ {A = Read} (Ok (b, bs)) (Ok (n, rest)) = sym (cond-true _ _ _ (lt-ltb b 16 p)) ∙ e in
+          let f : ◌≡◌ {A = Part ℕ} (Ok (b, bs)) (Ok (n, rest)) = sym (cond-true _ _ _ (lt-ltb b 16 p)) ∙ e in
           let g = ok_parts (b, bs) (n, rest) f in
           let x : b ≡ n = g.0 in
           let y : bs ≡ rest = g.1 in
           (omega arith, cc)
       | inr p ↦
-          let f : ◌≡◌ {A = Read} (Err BadNumber) (Ok (n, rest)) = sym (cond-false _ _ _ (le-ltb b 16 p)) ∙ e in
+          let f : ◌≡◌ {A = Part ℕ} (Err BadNumber) (Ok (n, rest)) = sym (cond-false _ _ _ (le-ltb b 16 p)) ∙ e in
           absurd (let z : ◌≡◌ {A = ℕ} 0 1 = cc in omega arith)
     ]
 read_up_to_spells (suc i) n (b ∷ bs) rest a e =
     elim (cases_lt b 128) [
       | inl p ↦
-          let f : ◌≡◌ {A = Read} (Ok (b, bs)) (Ok (n, rest)) = sym (cond-true _ _ _ (lt-ltb b 128 p)) ∙ e in
+          let f : ◌≡◌ {A = Part ℕ} (Ok (b, bs)) (Ok (n, rest)) = sym (cond-true _ _ _ (lt-ltb b 128 p)) ∙ e in
           let g = ok_parts (b, bs) (n, rest) f in
           let x : b ≡ n = g.0 in
           let y : bs ≡ rest = g.1 in

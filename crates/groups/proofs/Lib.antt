@@ -3,4 +3,3 @@ pub mod Writing
 pub mod Putting
 pub mod Exactness
 pub mod Fronts
-pub mod Calls

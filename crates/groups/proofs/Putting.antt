@@ -1,14 +1,7 @@
 -- Bytes put into a slice, one after another. Assumes nothing.
-use Rattle.std.proofs.Common.{◌≡◌, ℕ, suc, ◌+◌, ◌<◌, ◌≤◌, true, false, leb, List, [], ◌∷◌, ◌++◌, length, take, drop, set, Some, None, sym, refl, ap, ◌∙◌, arith}
+use Rattle.std.proofs.Common.{◌≡◌, ℕ, suc, ◌+◌, ◌<◌, ◌≤◌, List, [], ◌∷◌, ◌++◌, length, take, drop, set, sym, refl, ap, ◌∙◌, arith}
 use Rattle.std.proofs.lemmas.List.{length-set, length-take-le, take-append-drop, take_more_set, drop-set-lt, drop_at, drop-drop, append_assoc}
-use Rattle.std.proofs.lemmas.Bool.{cond-true, cond-false}
-use Rattle.groups.specs.Puts.{put_all, put}
-
-pub put_some : (out : List ℕ) (at : ℕ) (bs : List ℕ) (place : ℕ) (after : List ℕ) → true ≡ leb (at + length bs) (length out) → place ≡ at + length bs → after ≡ put_all out at bs → (Some place, after) ≡ put out at bs
-put_some out at bs place after h p q = ap (λ k. (Some k, after)) p ∙ ap (λ zs. (Some (at + length bs), zs)) q ∙ sym (cond-true _ _ _ (sym h))
-
-pub put_none : (out : List ℕ) (at : ℕ) (bs : List ℕ) → false ≡ leb (at + length bs) (length out) → (None, out) ≡ put out at bs
-put_none out at bs h = sym (cond-false _ _ _ (sym h))
+use Rattle.groups.specs.Puts.{put_all}
 
 pub put_all_append : (out : List ℕ) (at : ℕ) (xs ys : List ℕ) → put_all out at (xs ++ ys) ≡ put_all (put_all out at xs) (at + length xs) ys
 put_all_append out at [] ys = ap (λ k. put_all out k ys) (let e : at ≡ at + 0 = omega arith in e)

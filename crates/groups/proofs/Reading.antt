@@ -1,27 +1,14 @@
 -- What `read_up_to` does with the first byte, and how large the number is. Assumes nothing.
-use Rattle.std.proofs.Common.{◌≡◌, ℕ, zero, suc, ◌+◌, ◌-◌, ◌*◌, ◌^◌, ◌<◌, ◌≤◌, List, [], ◌∷◌, length, Ok, Err, sym, refl, ap, ◌∙◌, arith}
+use Rattle.std.proofs.Common.{◌≡◌, ℕ, zero, suc, ◌+◌, ◌-◌, ◌*◌, ◌^◌, ◌<◌, ◌≤◌, List, ◌∷◌, Ok, Err, sym, refl, ap, ◌∙◌, arith}
 use native.Mathlib.Nat.{pow-succ'}
-use Rattle.std.proofs.lemmas.Bool.{lt-ltb, le-ltb, eq-eqb, ne_eqb, cond-true, cond-false}
+use Rattle.std.proofs.lemmas.Bool.{le-ltb, eq-eqb, ne_eqb, cond-true, cond-false}
 use Rattle.refusals.specs.declared.refusal.Refusal.{Refusal}
-use Rattle.refusals.specs.declared.refusal.Refusal.TheVariants.{CutOff, BadNumber}
-use Rattle.groups.specs.Groups.{Read, onto, read_up_to}
+use Rattle.refusals.specs.declared.refusal.Refusal.TheVariants.{BadNumber}
+use Rattle.refusals.specs.Parts.{Part}
+use Rattle.groups.specs.Groups.{onto, read_up_to}
 
-pub ok_parts : (p q : ℕ × List ℕ) → ◌≡◌ {A = Read} (Ok p) (Ok q) → (p.0 ≡ q.0) × (p.1 ≡ q.1)
+pub ok_parts : (p q : ℕ × List ℕ) → ◌≡◌ {A = Part ℕ} (Ok p) (Ok q) → (p.0 ≡ q.0) × (p.1 ≡ q.1)
 ok_parts p q e = let f : p ≡ q = cc in (ap (λ z. z.0) f, ap (λ z. z.1) f)
-
-pub read_none : (i : ℕ) (bs : List ℕ) → length bs < 1 → read_up_to i bs ≡ Err CutOff
-read_none i [] h = refl
-read_none i (b ∷ bs) h = absurd (omega arith)
-
--- the fifth group
-pub read_fifth : (i b : ℕ) (bs rest : List ℕ) → bs ≡ b ∷ rest → i ≡ 0 → b < 16 → read_up_to i bs ≡ Ok (b, rest)
-read_fifth zero b bs rest e z h = ap (read_up_to 0) e ∙ cond-true _ _ _ (lt-ltb b 16 h)
-read_fifth (suc i) b bs rest e z h = absurd (omega arith)
-
--- a last group before the fifth
-pub read_last : (i b : ℕ) (bs rest : List ℕ) → bs ≡ b ∷ rest → (i ≡ 0 → ⊥) → b < 128 → read_up_to i bs ≡ Ok (b, rest)
-read_last zero b bs rest e z h = absurd (z refl)
-read_last (suc i) b bs rest e z h = ap (read_up_to (suc i)) e ∙ cond-true _ _ _ (lt-ltb b 128 h)
 
 pred_suc : (i : ℕ) → suc i - 1 ≡ i
 pred_suc i = omega arith
@@ -41,20 +28,10 @@ module _ (i b : ℕ) (bs rest : List ℕ) (e : bs ≡ b ∷ rest) (some : i ≡ 
   onto_rest : read_up_to i bs ≡ onto b (read_up_to (i - 1) rest)
   onto_rest = read_more i b bs rest e some h
 
-  pub read_more_zero : (m : ℕ) (after : List ℕ) → Ok (m, after) ≡ read_up_to (i - 1) rest → m ≡ 0 → Err BadNumber ≡ read_up_to i bs
-  read_more_zero m after f z = sym (onto_rest ∙ ap (onto b) (sym f) ∙ onto_zero b m after z)
-
-  pub read_more_some : (m : ℕ) (after : List ℕ) → Ok (m, after) ≡ read_up_to (i - 1) rest → (m ≡ 0 → ⊥) → Ok (b - 128 + 128 * m, after) ≡ read_up_to i bs
-  read_more_some m after f z = sym (onto_rest ∙ ap (onto b) (sym f) ∙ onto_some b m after z)
-
   pub read_more_fault : (r : Refusal) → Err r ≡ read_up_to (i - 1) rest → Err r ≡ read_up_to i bs
   read_more_fault r f = sym (onto_rest ∙ ap (onto b) (sym f))
 
 -- a number with at most i groups after the first is below 16 * 128 ^ i
-pub small_fifth : (i b : ℕ) → i ≡ 0 → b < 16 → b < 16 * 128 ^ i
-small_fifth zero b z h = omega arith
-small_fifth (suc i) b z h = absurd (omega arith)
-
 pub limit_some : (i : ℕ) → 16 ≤ 16 * 128 ^ i
 limit_some zero = omega arith
 limit_some (suc i) = let h = limit_some i in rw pow-succ' (omega arith)

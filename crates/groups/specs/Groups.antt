@@ -1,49 +1,29 @@
 -- A number in groups of seven bits at the front of some bytes: below 2 ^ 32, the lowest group first, the top bit set on all
 -- groups but the last, at most five groups, and no zero as the last group after others.
---     Read                  what bytes are read as: Ok of a number and the bytes after it, or Err of the fault
 --     onto b r              what the byte b and the number r of the groups after it are read as
 --     read_up_to i bs       what bs is read as, with at most i groups after the first
 --     groups_read bs        what bs is read as
---     fault_of r            the fault, or None where r is a number
---     found bs r            the number and the bytes after it, or 0 and all of bs where r is a fault
---     told r                r with the bytes that its reference points to
 --     groups_up_to i n      n in groups, at most i after the first
 --     groups_of n           n in groups
 --     Bytes bs              each element is below 256
 --     Written n rest bs     n is below 2 ^ 32, and bs is its groups and then rest
 --     GroupsExact bs        bs is read as n and rest just where it is the groups of n and then rest
-use Rattle.std.specs.Prelude.{◌≡◌, ℕ, zero, suc, ◌+◌, ◌-◌, ◌*◌, ◌/◌, ◌%◌, ◌^◌, ◌<◌, cond, List, [], ◌∷◌, ◌++◌, Some, None, Ok, Err, Option, Result, ◌==◌, nat_lt, slice_index}
-use Rattle.std.specs.Borrow.{Bor}
-use Rattle.refusals.specs.declared.refusal.Refusal.{Refusal}
+use Rattle.std.specs.Prelude.{◌≡◌, ℕ, zero, suc, ◌+◌, ◌-◌, ◌*◌, ◌/◌, ◌%◌, ◌^◌, ◌<◌, cond, List, [], ◌∷◌, ◌++◌, Ok, Err, ◌==◌, nat_lt, slice_index}
 use Rattle.refusals.specs.declared.refusal.Refusal.TheVariants.{CutOff, BadNumber}
-
-abbrev pub Read : Type 0
-Read = Result (ℕ × List ℕ) Refusal
+use Rattle.refusals.specs.Parts.{Part}
 
 -- the number of the groups after b is zero only where they are one zero
-abbrev pub onto : ℕ → Read → Read
+abbrev pub onto : ℕ → Part ℕ → Part ℕ
 onto b (Ok p) = cond (p.0 == 0) (Err BadNumber) (Ok (b - 128 + 128 * p.0, p.1))
 onto b (Err r) = Err r
 
-abbrev pub read_up_to : ℕ → List ℕ → Read
+abbrev pub read_up_to : ℕ → List ℕ → Part ℕ
 read_up_to i [] = Err CutOff
 read_up_to zero (b ∷ bs) = cond (nat_lt b 16) (Ok (b, bs)) (Err BadNumber)
 read_up_to (suc i) (b ∷ bs) = cond (nat_lt b 128) (Ok (b, bs)) (onto b (read_up_to i bs))
 
-abbrev pub groups_read : List ℕ → Read
+abbrev pub groups_read : List ℕ → Part ℕ
 groups_read bs = read_up_to 4 bs
-
-abbrev pub fault_of : Read → Option Refusal
-fault_of (Ok p) = None
-fault_of (Err r) = Some r
-
-abbrev pub found : List ℕ → Read → ℕ × List ℕ
-found bs (Ok p) = p
-found bs (Err r) = (0, bs)
-
-abbrev pub told : Result (ℕ × Bor (List ℕ)) Refusal → Read
-told (Ok p) = Ok (p.0, p.1.now)
-told (Err r) = Err r
 
 abbrev pub groups_up_to : ℕ → ℕ → List ℕ
 groups_up_to zero n = n ∷ []

@@ -3,8 +3,10 @@
 #![tactic(auto)]
 
 ghost use Rattle.std.specs.Prelude.{◌≡◌, ◌+◌, ◌*◌, ◌^◌, ◌<◌, ◌≤◌, length, IfOk, nat_le};
-ghost use Rattle.groups.specs.Groups.{read_up_to, groups_read, fault_of, found, told, groups_of, GroupsExact};
-ghost use Rattle.groups.specs.Puts.{put, ReadsBack};
+ghost use Rattle.std.specs.Result.{result_err, result_unwrap_or};
+ghost use Rattle.refusals.specs.Parts.{told};
+ghost use Rattle.groups.specs.Groups.{read_up_to, groups_read, groups_of, GroupsExact};
+ghost use Rattle.groups.specs.Puts.{put_all, put, ReadsBack};
 ghost use Rattle.groups.specs.Examples.{GroupsExamples};
 
 use refusals::refusal::Refusal;
@@ -18,30 +20,27 @@ fn read_up_to(bytes: &[u8], left: u8) -> Result<(u32, &[u8]), Refusal>
     let [first, rest @ ..] = bytes else {
         return Err(Refusal::CutOff);
     };
+    let group = u32::from(*first);
     if left == 0 {
-        return if *first < 16 {
-            Ok((*first as u32, rest))
+        return if group < 16 {
+            Ok((group, rest))
         } else {
             Err(Refusal::BadNumber)
         };
     }
-    if *first < 128 {
-        return Ok((*first as u32, rest));
+    if group < 128 {
+        return Ok((group, rest));
     }
-    match read_up_to(rest, left - 1) {
-        Ok((above, after)) => {
-            if above == 0 {
-                Err(Refusal::BadNumber)
-            } else {
-                Ok((*first as u32 - 128 + 128 * above, after))
-            }
-        }
-        Err(fault) => Err(fault),
+    let (above, after) = read_up_to(rest, left - 1)?;
+    if above == 0 {
+        return Err(Refusal::BadNumber);
     }
+    Ok((group - 128 + 128 * above, after))
 }
 
-// Reads a number: at most four groups come after the first.
-fn read(bytes: &[u8]) -> Result<(u32, &[u8]), Refusal>
+// The number that the bytes begin with and the bytes after it, or why they do not begin with one.
+// At most four groups come after the first.
+pub fn read_groups(bytes: &[u8]) -> Result<(u32, &[u8]), Refusal>
     ensures value { told result ≡ groups_read bytes.now }
     ensures exact { GroupsExact bytes.now }
 {
@@ -50,24 +49,18 @@ fn read(bytes: &[u8]) -> Result<(u32, &[u8]), Refusal>
 
 // Why the bytes do not begin with a number in groups; None where they do.
 pub fn groups_fault(bytes: &[u8]) -> Option<Refusal>
-    ensures { result ≡ fault_of (groups_read bytes.now) }
+    ensures { result ≡ result_err (groups_read bytes.now) }
 {
-    match read(bytes) {
-        Ok(_) => None,
-        Err(fault) => Some(fault),
-    }
+    read_groups(bytes).err()
 }
 
 // The number that the bytes begin with and the bytes after it; 0 and all the bytes where there is a fault.
 // Bytes that have no fault are the groups of the number and then the bytes after it, and such bytes have no fault.
 pub fn groups(bytes: &[u8]) -> (u32, &[u8])
-    ensures value { (result.0, result.1.now) ≡ found bytes.now (groups_read bytes.now) }
+    ensures value { (result.0, result.1.now) ≡ result_unwrap_or (groups_read bytes.now) (0, bytes.now) }
     ensures exact { GroupsExact bytes.now }
 {
-    match read(bytes) {
-        Ok(number) => number,
-        Err(_) => (0, bytes),
-    }
+    read_groups(bytes).unwrap_or((0, bytes))
 }
 
 // How many groups a number has.
@@ -75,13 +68,7 @@ pub fn groups_len(n: u32) -> usize
     ensures value { result ≡ length (groups_of n) }
     ensures few { result ≤ 5 }
 {
-    let mut count = 1;
-    let mut left = n;
-    while left >= 128 {
-        left /= 128;
-        count += 1;
-    }
-    count
+    if n < 128 { 1 } else { 1 + groups_len(n / 128) }
 }
 
 // Whether `len` places leave room for a number from the place `at` on.
@@ -89,6 +76,20 @@ fn has_room(len: usize, at: usize, n: u32) -> bool
     ensures { result ≡ nat_le (at + length (groups_of n)) len }
 {
     at <= len && groups_len(n) <= len - at
+}
+
+// Writes the groups of a number from the place `at` on, and tells the place after them.
+fn put_all(out: &mut [u8], at: usize, n: u32) -> usize
+    requires { at + length (groups_of n) ≤ length out.old }
+    ensures place { result ≡ at + length (groups_of n) }
+    ensures after { out.new ≡ put_all out.old at (groups_of n) }
+{
+    if n < 128 {
+        out[at] = n as u8;
+        return at + 1;
+    }
+    out[at] = (128 + n % 128) as u8;
+    put_all(out, at + 1, n / 128)
 }
 
 // Writes the groups of a number from the place `at` on, and tells the place after them; None where places lack.
@@ -100,20 +101,10 @@ pub fn put_groups(out: &mut [u8], at: usize, n: u32) -> Option<usize>
     if !has_room(out.len(), at, n) {
         return None;
     }
-    let mut place = at;
-    let mut left = n;
-    while left >= 128 {
-        out[place] = (128 + left % 128) as u8;
-        left /= 128;
-        place += 1;
-    }
-    out[place] = left as u8;
-    Some(place + 1)
+    Some(put_all(out, at, n))
 }
 
 // Numbers in groups, and bytes that are refused.
-pub fn groups_examples() -> u8
+pub fn groups_examples()
     ensures { GroupsExamples }
-{
-    0
-}
+{}

@@ -1,12 +1,13 @@
 -- The fields that a line is read as are those that it is cut into. Assumes nothing.
 use Rattle.std.proofs.Common.{◌≡◌, ℕ, List, [], ◌∷◌, Some, None, Ok, Err, sym, refl, ap, ◌∙◌, subst, arith}
+use Rattle.std.specs.Result.{result_err}
 use Rattle.refusals.specs.declared.refusal.Refusal.{Refusal}
 use Rattle.files.specs.declared.fields.Fields.{Fields}
 use Rattle.files.specs.declared.fields.Fields.TheVariants.{Insert, Retraction, Cti}
-use Rattle.files.specs.Orders.{Part, bind, Head, head_by, pair_by, row_from, insert_by, retraction_by, cti_by}
+use Rattle.refusals.specs.Parts.{Part}
+use Rattle.files.specs.Orders.{bind, Head, head_by, pair_by, row_from, insert_by, retraction_by, cti_by}
 use Rattle.files.proofs.Binding.{ok_parts, bind_parts}
 use Rattle.text.specs.Text.{byte_read, number_read, end_read, closed, text_read}
-use Rattle.text.specs.Skipping.{fault_of}
 use Rattle.text.specs.Lines.{field_at, past, tail, Line, insert_cut, retraction_cut, line_cut, number_in, end_in, fields_in}
 use Rattle.text.specs.Letters.{Lettered, letter_i, letter_r, letter_c, lettered, insert_line, retraction_line, cti_line}
 use Rattle.text.specs.FieldCuts.{Parted, byte_first, number_parted, number_cut, end_parted, end_cut}
@@ -125,7 +126,7 @@ line_separate f [] rest e = absurd (let z : ◌≡◌ {A = ℕ} 0 1 = cc in omeg
 line_separate f (b ∷ bs) rest e = lettered_separate b bs rest f (lettered b bs rest f e)
 
 -- a line that has no fault is read as the fields that it is cut into
-pub line_done : (bs : List ℕ) (l : Line) (rest : List ℕ) (f : Fields) → None ≡ fault_of (text_read bs) → (l, rest) ≡ line_cut bs → f ≡ fields_in l → Ok (f, rest) ≡ text_read bs
+pub line_done : (bs : List ℕ) (l : Line) (rest : List ℕ) (f : Fields) → None ≡ result_err (text_read bs) → (l, rest) ≡ line_cut bs → f ≡ fields_in l → Ok (f, rest) ≡ text_read bs
 line_done bs l rest f none cut is =
     let p = part_ok (text_read bs) none in
     let s = line_separate p.0 bs p.1 p.2 in
@@ -133,10 +134,10 @@ line_done bs l rest f none cut is =
     let r : rest ≡ p.1 = ap (λ x. x.1) cut ∙ s.1 in
     ap (λ (x : Fields). Ok (x, rest)) g ∙ ap (λ (zs : List ℕ). Ok (p.0, zs)) r ∙ sym p.2
   where
-    part_ok : (r : Part Fields) → None ≡ fault_of r → (g : Fields) × (more : List ℕ) × (r ≡ Ok (g, more))
+    part_ok : (r : Part Fields) → None ≡ result_err r → (g : Fields) × (more : List ℕ) × (r ≡ Ok (g, more))
     part_ok (Ok p) e = (p.0, p.1, refl)
     part_ok (Err why) e = absurd (let z : ◌≡◌ {A = ℕ} 0 1 = cc in omega arith)
 
-pub line_refused : (r : Part Fields) (why : Refusal) → Some why ≡ fault_of r → Err why ≡ r
+pub line_refused : (r : Part Fields) (why : Refusal) → Some why ≡ result_err r → Err why ≡ r
 line_refused (Ok p) why e = absurd (let z : ◌≡◌ {A = ℕ} 0 1 = cc in omega arith)
 line_refused (Err x) why e = cc

@@ -1,14 +1,17 @@
 -- Where a part ends is what skipping it tells. Assumes nothing.
-use Rattle.std.proofs.Common.{◌≡◌, ℕ, Bool, true, false, cond, eqb, List, [], ◌∷◌, Some, None, Ok, Err, sym, refl, ap, ◌∙◌, arith}
+use Rattle.std.proofs.Common.{Result, ◌≡◌, ℕ, Bool, true, false, cond, eqb, List, [], ◌∷◌, Ok, Err, sym, refl, ap, ◌∙◌}
+use Rattle.std.specs.Borrow.{Bor}
+use Rattle.std.specs.Result.{result_err}
 use Rattle.decimals.specs.Decimals.{decimal_read}
 use Rattle.refusals.specs.declared.refusal.Refusal.{Refusal}
 use Rattle.refusals.specs.declared.refusal.Refusal.TheVariants.{BadByte}
 use Rattle.files.specs.declared.fields.EndField.TheVariants.{At, Forever}
 use Rattle.files.specs.declared.fields.Fields.{Fields}
 use Rattle.files.specs.declared.fields.Fields.TheVariants.{Insert, Retraction, Cti}
-use Rattle.files.specs.Orders.{Part, bind, head_by, pair_by, row_from, insert_by, retraction_by, cti_by}
+use Rattle.refusals.specs.Parts.{Part, rest_told}
+use Rattle.files.specs.Orders.{bind, head_by, pair_by, row_from, insert_by, retraction_by, cti_by}
 use Rattle.text.specs.Text.{byte_read, number_read, time_read, end_read, closed, text_read}
-use Rattle.text.specs.Skipping.{Skip, after, onward, fault_of, skip_byte, skip_number, skip_time, skip_end, skip_head, skip_pair, skip_insert, skip_retraction, skip_cti, skip_line}
+use Rattle.text.specs.Skipping.{Skip, after, onward, skip_byte, skip_number, skip_time, skip_end, skip_head, skip_pair, skip_insert, skip_retraction, skip_cti, skip_line}
 
 after_bind : {A B : Type 0} (r : Part A) (go : A → List ℕ → Part B) (skip : List ℕ → Skip) → ((a : A) (bs : List ℕ) → after (go a bs) ≡ skip bs) → after (bind r go) ≡ onward (after r) skip
 after_bind (Ok p) go skip same = same p.0 p.1
@@ -113,16 +116,13 @@ line_after (b ∷ bs) =
     ∙ ap (cond (eqb b 82) (skip_retraction bs))
     (after_cond (eqb b 67) (closed (cti_by number_read bs)) (Err BadByte) ∙ ap (λ s. cond (eqb b 67) s (Err BadByte)) (cti_after bs)))
 
-none_after : {A : Type 0} (r : Part A) (rest : List ℕ) → Ok rest ≡ after r → None ≡ fault_of r
-none_after (Ok p) rest e = refl
-none_after (Err why) rest e = absurd (let z : ◌≡◌ {A = ℕ} 0 1 = cc in omega arith)
+after_fault : {A : Type 0} (r : Part A) → result_err (after r) ≡ result_err r
+after_fault (Ok p) = refl
+after_fault (Err why) = refl
 
-some_after : {A : Type 0} (r : Part A) (why : Refusal) → Err why ≡ after r → Some why ≡ fault_of r
-some_after (Ok p) why e = absurd (let z : ◌≡◌ {A = ℕ} 0 1 = cc in omega arith)
-some_after (Err x) why e = cc
+told_fault : (r : Result (Bor (List ℕ)) Refusal) → result_err r ≡ result_err (rest_told r)
+told_fault (Ok rest) = refl
+told_fault (Err why) = refl
 
-pub no_fault : (bs rest : List ℕ) → Ok rest ≡ skip_line bs → None ≡ fault_of (text_read bs)
-no_fault bs rest e = none_after (text_read bs) rest (e ∙ sym (line_after bs))
-
-pub some_fault : (bs : List ℕ) (why : Refusal) → Err why ≡ skip_line bs → Some why ≡ fault_of (text_read bs)
-some_fault bs why e = some_after (text_read bs) why (e ∙ sym (line_after bs))
+pub line_faults : (bs : List ℕ) (r : Result (Bor (List ℕ)) Refusal) → rest_told r ≡ skip_line bs → result_err r ≡ result_err (text_read bs)
+line_faults bs r e = told_fault r ∙ ap result_err (e ∙ sym (line_after bs)) ∙ after_fault (text_read bs)

@@ -7,7 +7,8 @@ use Rattle.decimals.specs.Decimals.{decimal_read}
 use Rattle.decimals.proofs.Exactness.{read_written}
 use Rattle.files.specs.declared.fields.EndField.TheVariants.{At, Forever}
 use Rattle.files.specs.declared.fields.Fields.{Fields}
-use Rattle.files.specs.Orders.{Part, bind, insert_by, retraction_by, cti_by}
+use Rattle.refusals.specs.Parts.{Part}
+use Rattle.files.specs.Orders.{bind, insert_by, retraction_by, cti_by}
 use Rattle.files.specs.Reading.{Ends}
 use Rattle.files.proofs.Binding.{Shortens, ok_parts, ends_cons, bind_ends, made_ends, insert_ends, retraction_ends, cti_ends}
 use Rattle.text.specs.Text.{byte_read, number_read, time_read, end_read, closed, text_read}

@@ -8,7 +8,7 @@ use Rattle.refusals.specs.declared.refusal.Refusal.{Refusal}
 use Rattle.refusals.specs.declared.refusal.Refusal.TheVariants.{BadByte}
 use Rattle.files.specs.declared.fields.EndField.{EndField}
 use Rattle.files.specs.declared.fields.EndField.TheVariants.{At, Forever}
-use Rattle.files.specs.Orders.{Part}
+use Rattle.refusals.specs.Parts.{Part}
 use Rattle.files.proofs.Binding.{ok_parts, bind_parts}
 use Rattle.text.specs.Text.{byte_read, number_read, time_read, end_read}
 use Rattle.text.specs.Lines.{parts, front, back, field_at, past, number_in, star_first, end_in}

@@ -4,7 +4,8 @@ use Rattle.std.proofs.Common.{sym, ap, ◌∙◌, inl, inr, arith}
 use Rattle.std.proofs.lemmas.Bool.{cases_eq, ne_eqb, eq-eqb, cond-true, cond-false}
 use Rattle.refusals.specs.declared.refusal.Refusal.TheVariants.{BadByte}
 use Rattle.files.specs.declared.fields.Fields.{Fields}
-use Rattle.files.specs.Orders.{Part, insert_by, retraction_by, cti_by}
+use Rattle.refusals.specs.Parts.{Part}
+use Rattle.files.specs.Orders.{insert_by, retraction_by, cti_by}
 use Rattle.text.specs.Text.{number_read, end_read, closed, text_read}
 use Rattle.text.specs.Skipping.{skip_byte, skip_insert, skip_retraction, skip_cti, skip_time, skip_line}
 use Rattle.text.specs.Lines.{field_at, past, tail, insert_cut, retraction_cut, cti, line_cut}

@@ -1,24 +1,17 @@
 -- Where the parts of a line end, without what they are.
 --     Skip                    the bytes after a part, or a refusal
---     skip_as r               the answer r of a call that skips a part, with the bytes that its reference points to
 --     after r                 the bytes after the part r
 --     onward s go             go at the bytes after s, or the refusal
---     fault_of r              why the part r is refused, or None
 --     skip_byte, skip_number, skip_time, skip_end, skip_head, skip_pair, skip_insert, skip_retraction, skip_cti, skip_line
 --                             the bytes after the part of that name
-use Rattle.std.specs.Prelude.{ℕ, cond, List, [], ◌∷◌, Some, None, Ok, Err, Option, Result, ◌==◌}
-use Rattle.std.specs.Borrow.{Bor}
+use Rattle.std.specs.Prelude.{ℕ, cond, List, [], ◌∷◌, Ok, Err, Result, ◌==◌}
 use Rattle.decimals.specs.Decimals.{decimal_read}
 use Rattle.refusals.specs.declared.refusal.Refusal.{Refusal}
 use Rattle.refusals.specs.declared.refusal.Refusal.TheVariants.{CutOff, BadByte}
-use Rattle.files.specs.Orders.{Part}
+use Rattle.refusals.specs.Parts.{Part}
 
 abbrev pub Skip : Type 0
 Skip = Result (List ℕ) Refusal
-
-abbrev pub skip_as : Result (Bor (List ℕ)) Refusal → Skip
-skip_as (Ok r) = Ok r.now
-skip_as (Err why) = Err why
 
 abbrev pub after : {A : Type 0} → Part A → Skip
 after (Ok p) = Ok p.1
@@ -27,10 +20,6 @@ after (Err why) = Err why
 abbrev pub onward : Skip → (List ℕ → Skip) → Skip
 onward (Ok bs) go = go bs
 onward (Err why) go = Err why
-
-abbrev pub fault_of : {A : Type 0} → Part A → Option Refusal
-fault_of (Ok p) = None
-fault_of (Err why) = Some why
 
 abbrev pub skip_byte : ℕ → List ℕ → Skip
 skip_byte b [] = Err CutOff

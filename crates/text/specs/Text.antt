@@ -12,7 +12,8 @@ use Rattle.refusals.specs.declared.refusal.Refusal.TheVariants.{CutOff, BadByte}
 use Rattle.files.specs.declared.fields.EndField.{EndField}
 use Rattle.files.specs.declared.fields.EndField.TheVariants.{At, Forever}
 use Rattle.files.specs.declared.fields.Fields.{Fields}
-use Rattle.files.specs.Orders.{Part, bind, insert_by, retraction_by, cti_by}
+use Rattle.refusals.specs.Parts.{Part}
+use Rattle.files.specs.Orders.{bind, insert_by, retraction_by, cti_by}
 
 abbrev pub byte_read : ℕ → List ℕ → Part (Unit {0})
 byte_read b [] = Err CutOff

@@ -1,21 +1,11 @@
 // One line of input: a decimal number and a line feed.
 ghost use Rattle.std.specs.Prelude.{◌≡◌};
-ghost use Rattle.decimals.specs.Decimals.{decimal_read};
-ghost use Rattle.weighing.specs.Lines.{line_end, line_read, told};
+ghost use Rattle.refusals.specs.Parts.{told};
+ghost use Rattle.weighing.specs.Lines.{line_end, line_read};
 
 use crate::weighed::Weighed;
-use decimals::{decimal, decimal_fault};
+use decimals::read_decimal;
 use refusals::refusal::Refusal;
-
-// The number that the bytes begin with, and the bytes after it.
-fn number_first(bytes: &[u8]) -> Result<(u32, &[u8]), Refusal>
-    ensures { told result ≡ decimal_read bytes.now }
-{
-    match decimal_fault(bytes) {
-        Some(refusal) => Err(refusal),
-        None => Ok(decimal(bytes)),
-    }
-}
 
 // What a number weighs whose line feed is next, and the bytes after that.
 fn line_end(number: u32, rest: &[u8]) -> Result<(Weighed, &[u8]), Refusal>
@@ -35,6 +25,6 @@ fn line_end(number: u32, rest: &[u8]) -> Result<(Weighed, &[u8]), Refusal>
 pub fn weigh_line(bytes: &[u8]) -> Result<(Weighed, &[u8]), Refusal>
     ensures { told result ≡ line_read bytes.now }
 {
-    let (number, rest) = number_first(bytes)?;
+    let (number, rest) = read_decimal(bytes)?;
     line_end(number, rest)
 }

@@ -7,8 +7,8 @@ ghost use Rattle.worked.specs.Worked.{Worked};
 pub fn worked_examples_hold() -> u8
     ensures { Worked }
 {
-    let _ = decimals::decimal_examples();
-    let _ = groups::groups_examples();
+    decimals::decimal_examples();
+    groups::groups_examples();
     let _ = kinds::examples_hold();
     let _ = receipts::laws::examples_hold();
     let _ = rewriting::laws::examples_hold();

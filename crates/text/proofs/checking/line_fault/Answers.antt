@@ -1,8 +1,6 @@
-use Rattle.text.proofs.Skips.{no_fault, some_fault}
+use Rattle.std.proofs.Common.{◌∙◌}
+use Rattle.text.proofs.Skips.{line_faults}
 use Rattle.text.proofs.checking.line_fault.Goals as goal
 
-pub returns-in-Ok : goal.returns-in-Ok
-returns-in-Ok c = no_fault c.args.bytes.now _ c.in-Ok.ensures
-
-pub returns-in-Err : goal.returns-in-Err
-returns-in-Err c = some_fault c.args.bytes.now _ c.in-Err.ensures
+pub returns : goal.returns
+returns c = c.err.ensures.value ∙ line_faults c.args.bytes.now _ c.past_line.ensures
