@@ -1,118 +1,181 @@
--- What a call on a sorted store answers and leaves: what its search told, and how it moved the rows.
-use Rattle.std.proofs.Common.{◌≡◌, ℕ, suc, ◌+◌, ◌-◌, ◌<◌, ◌≤◌, Bool, true, false, List, ◌∷◌, ◌++◌, map, length, get_or, take, drop, set, Some, None, Ok, Err, filter, sym, ap, ◌∙◌, arith}
-use lib.Seq.{take-set-lt}
-use Rattle.std.proofs.lemmas.List.{get_or-map, get_or-take, length-take-le, map-append, map-set, take-map, drop-map}
-use Rattle.std.specs.List.{insert, remove}
+-- What the answer of a search tells a call, and what the calls leave.
+use Rattle.std.proofs.Common.{◌≡◌, ℕ, ◌<◌, ◌≤◌, Bool, true, false, cond, not, ltb, List, [], ◌∷◌, map, length, get_or, set, Some, None, Ok, Err, Option, Result, filter, Bor, sym, refl, ap, ◌∙◌, subst, ⊎_elim, arith}
+use Rattle.std.specs.List.{insert, remove, HoldsAt}
+use Rattle.std.specs.List.Retain.{RetainsInTurn}
+use Rattle.std.specs.List.Sorted.{IsNonDecreasingBy}
+use Rattle.std.specs.Option.{MatchOption, option_copied}
+use Rattle.std.specs.Result.{MatchResult, IsOk, OnOk, OnErr, result_ok}
+use Rattle.std.proofs.lemmas.Bool.{cases_lt, true≢false}
+use Rattle.std.proofs.lemmas.List.{get_or-map, get_or_default, length-map, length-set, map-set}
+use Rattle.arrayvec.specs.ArrayVec.{ArrayVec, with_items}
+use Rattle.arrayvec.proofs.ArrayVecLemmas.{items-with_items, filter-from_retain}
 use Rattle.refusals.specs.declared.refusal.Refusal.{Refusal}
+use Rattle.refusals.specs.declared.refusal.Refusal.TheVariants.{StoreFull}
 use Rattle.rows.specs.declared.row.PlainRow.{PlainRow}
 use Rattle.rows.specs.declared.span.Span.{Span}
 use Rattle.rows.specs.Rows.{Plain, plain, with_end}
 use Rattle.rows.specs.Spans.{times, span_made}
 use Rattle.rows.specs.Times.{lawful}
-use Rattle.receipts.specs.Stores.{nth_row, found, holds_id, placed, end_set, without, kept, gone, accept, refuse, adds, removes, sets}
-use Rattle.stores.specs.Places.{place, has_id}
-use Rattle.stores.proofs.Places.{below_le, held_here, found_here, found_none}
-use Rattle.stores.proofs.Edits.{placed_place, without_place, end_set_place}
-use Rattle.stores.proofs.Order.{rising_placed, rising_without, rising_end_set, rising_kept}
-use Rattle.stores.proofs.Lengths.{gone_kept}
+use Rattle.receipts.specs.Stores.{Rising, found, nth_row, holds_id, placed, end_set, without, kept, accept, refuse, adds, removes, sets}
+use Rattle.stores.specs.Told.{seen, outcome}
+use Rattle.stores.specs.Places.{below, place, has_id}
+use Rattle.stores.proofs.Edits.{map_inserted, map_removed, placed_place, without_place, end_set_place}
+use Rattle.stores.proofs.Lengths.{length_placed}
+use Rattle.stores.proofs.Order.{rising_placed, rising_without, rising_end_set}
+use Rattle.stores.proofs.Outcomes.{adds_full, adds_done, removes_done, sets_bad, sets_done}
+use Rattle.stores.proofs.Places.{holds_place, found_at_place, place_within, nth_past, nth_get_or}
+use Rattle.stores.proofs.Plains.{rises_plain, place_plain}
 use Rattle.stores.proofs.Spans.{span_good, span_bad}
-use Rattle.stores.proofs.Outcomes.{adds_done, removes_done, sets_bad, sets_done}
-use Rattle.sorted.specs.declared.table.SortedStore.{SortedStore}
-use Rattle.sorted.specs.Model.{held, stays}
-use Rattle.sorted.specs.Rising.{in_order}
-use Rattle.sorted.specs.Held.{length_held, nth_held, count_held, rising_held, kept_plain}
-use Rattle.sorted.specs.RisingLemmas.{test_from_rising}
+use Rattle.sorted.specs.Model.{spot}
 
-map_inserted : {X Y : Type 0} (f : X → Y) (xs : List X) (k : ℕ) (v : X) → map f (insert xs k v) ≡ insert (map f xs) k (f v)
-map_inserted f xs k v =
-    map-append f (take k xs) (v ∷ drop k xs) ∙ sym (ap (λ zs. zs ++ (f v ∷ map f (drop k xs))) (take-map f k xs))
-    ∙ sym (ap (λ zs. take k (map f xs) ++ (f v ∷ zs)) (drop-map f k xs))
+-- what the answer of a search tells
+by_ok : (b : Bool) (p k : ℕ) → ◌≡◌ {A = Result ℕ ℕ} (Ok k) (cond b (Ok p) (Err p)) → (b ≡ true) × (k ≡ p)
+by_ok true p k e = (refl, cc)
+by_ok false p k e = (cc, cc)
 
-map_removed : {X Y : Type 0} (f : X → Y) (xs : List X) (k : ℕ) → map f (remove xs k) ≡ remove (map f xs) k
-map_removed f xs k =
-    map-append f (take k xs) (drop (suc k) xs) ∙ sym (ap (λ zs. zs ++ map f (drop (suc k) xs)) (take-map f k xs))
-    ∙ sym (ap (λ zs. take k (map f xs) ++ zs) (drop-map f (suc k) xs))
+by_err : (b : Bool) (p k : ℕ) → ◌≡◌ {A = Result ℕ ℕ} (Err k) (cond b (Ok p) (Err p)) → (b ≡ false) × (k ≡ p)
+by_err true p k e = (cc, cc)
+by_err false p k e = (refl, cc)
 
--- k is the place of an id
-module _ (s : SortedStore) (id k : ℕ) (at : k ≡ place id (held s)) where
-  pub within_held : k ≤ s.count
-  within_held = omega (arith, below_le (λ (r : Plain). r.id) id (held s), count_held s)
+module _ (id : ℕ) (m : List Plain) where
+  pub spot_err : (k : ℕ) → Err k ≡ spot id m → (holds_id id m ≡ false) × (k ≡ place id m)
+  spot_err k e = by_err (holds_id id m) (place id m) k e
 
-  pub holds_told : (b : Bool) → b ≡ has_id id (nth_row k (held s)) → holds_id id (held s) ≡ b
-  holds_told b told = held_here id k (held s) (rising_held s) at b told
+  pub some_told : (r : Result ℕ ℕ) → r ≡ spot id m → (k : ℕ) → Some k ≡ result_ok r → (holds_id id m ≡ true) × (k ≡ place id m)
+  some_told (Ok p) told k e = let t = by_ok (holds_id id m) (place id m) p told in let same : k ≡ p = cc in (t.0, same ∙ t.1)
+  some_told (Err p) told k e = (cc, cc)
 
-  pub missing_told : false ≡ has_id id (nth_row k (held s)) → found id (held s) ≡ None
-  missing_told told = found_none id k (held s) (rising_held s) at told
+  pub none_told : (r : Result ℕ ℕ) → r ≡ spot id m → None ≡ result_ok r → holds_id id m ≡ false
+  none_told (Ok p) told e = cc
+  none_told (Err p) told e = (spot_err p told).0
 
-  -- the row there has the id
-  module _ (there : true ≡ has_id id (nth_row k (held s))) (lt : k < s.count) where
-    pub found_told : (d : PlainRow) → found id (held s) ≡ Some (plain (get_or s.rows k d))
-    found_told d =
-        found_here id k (held s) (rising_held s) at _ there (nth_held s.count s.rows k d (omega (arith, s.long, s.within)) lt)
+  -- the same behind `map_err`, which tells Q of an error
+  module _ (Q : ℕ → Type 0) where
+    pub ok_told : (r : Result ℕ ℕ) → r ≡ spot id m → (k : ℕ) → MatchResult r (λ p. ◌≡◌ {A = Result ℕ Refusal} (Ok k) (Ok p)) Q → ((p : ℕ) → Q p → ⊥)
+        → (holds_id id m ≡ true) × (k ≡ place id m)
+    ok_told (Ok p) told k h never = let t = by_ok (holds_id id m) (place id m) p told in let same : k ≡ p = cc in (t.0, same ∙ t.1)
+    ok_told (Err p) told k h never = absurd (never p h)
 
-    at_place : has_id id (nth_row (place id (held s)) (held s)) ≡ true
-    at_place = ap (λ j. has_id id (nth_row j (held s))) (sym at) ∙ sym there
+    pub err_told : (r : Result ℕ ℕ) → r ≡ spot id m → (d : Refusal) → MatchResult r (λ p. ◌≡◌ {A = Result ℕ Refusal} (Err d) (Ok p)) Q
+        → (why : Refusal) → ((p : ℕ) → Q p → d ≡ why) → (holds_id id m ≡ false) × (d ≡ why)
+    err_told (Ok p) told d h why is = (cc, cc)
+    err_told (Err p) told d h why is = ((spot_err p told).0, is p h)
 
-    module _ (ys : List PlainRow) (cut : take (s.count - 1) ys ≡ remove (take s.count s.rows) k) where
-      cut_held : map plain (take (s.count - 1) ys) ≡ without id (held s)
-      cut_held = ap (map plain) cut ∙ map_removed plain (take s.count s.rows) k ∙ ap (remove (held s)) at ∙ sym (without_place id (held s) at_place)
+pub place_told : (id k : ℕ) (rows xs : List PlainRow) → xs ≡ rows → Rising (map plain rows)
+    → (IsNonDecreasingBy (λ (r : PlainRow). r.id) xs → k ≡ below (λ (r : PlainRow). r.id) id xs) → k ≡ place id (map plain rows)
+place_told id k rows xs e up told =
+    subst (λ zs. IsNonDecreasingBy (λ (r : PlainRow). r.id) zs → k ≡ below (λ (r : PlainRow). r.id) id zs) e told (rises_plain rows up) ∙ place_plain id rows
 
-      pub removes_ordered : in_order (map plain (take (s.count - 1) ys)) ≡ true
-      removes_ordered = ap in_order cut_held ∙ test_from_rising _ (rising_without id (held s) (rising_held s))
+-- what is read at a place
+pub row_told : (rows xs : List PlainRow) → xs ≡ rows → (k : ℕ) (o : Option (Bor PlainRow))
+    → MatchOption o (length xs ≤ k) (λ x. (k < length xs) × HoldsAt (λ (y : PlainRow). x.now ≡ y) xs k) → seen (option_copied o) ≡ nth_row k (map plain rows)
+row_told rows xs is k None h = sym (nth_past k (map plain rows) (omega (arith, length-map rows plain, ap length is)))
+row_told rows xs is k (Some x) h =
+    let lt : k < length rows = omega (arith, h.0, ap length is) in
+    sym (nth_get_or k (map plain rows) (plain x.now) (omega (arith, length-map rows plain))
+    ∙ ap Some (get_or-map plain rows k x.now (plain x.now) lt ∙ ap plain (ap (λ zs. get_or zs k x.now) (sym is) ∙ sym (h.1 x.now))))
 
-      pub removes_told : accept (map plain (take (s.count - 1) ys)) ≡ removes id (held s)
-      removes_told = ap accept cut_held ∙ removes_done id (held s) (holds_told true there)
+-- an add at the place where the id belongs: r is what the list of rows answers, and a what the call does
+module _ (E : Type 0) (rows new : List PlainRow) (up : Rising (map plain rows)) (few : length rows ≤ 128) (row : PlainRow) (k : ℕ)
+    (absent : holds_id row.id (map plain rows) ≡ false) (at : k ≡ place row.id (map plain rows)) where
+  put_rows : new ≡ insert rows k row → map plain new ≡ placed (plain row) (map plain rows)
+  put_rows e =
+      ap (map plain) e ∙ map_inserted plain rows k row ∙ ap (λ j. insert (map plain rows) j (plain row)) at ∙ sym (placed_place (plain row) (map plain rows) absent)
 
-    -- the call that makes the new span told whether the held row may end at e
-    module _ (d : PlainRow) (e start : ℕ) (started : start ≡ (get_or s.rows k d).span.start) where
-      pub sets_refused : (why : Refusal) → Err why ≡ span_made start e → refuse why (held s) ≡ sets id e (held s)
-      sets_refused why told =
-          let bad = span_bad start e why told in
-          ap (λ z. refuse z (held s)) bad.1 ∙ sets_bad id (held s) e _ (found_told d) (ap (λ n. lawful n e) (sym started) ∙ bad.0)
+  pub add_rising : (r : Result (Unit {0}) E) → OnOk r (new ≡ insert rows k row) → OnErr r (new ≡ rows) → Rising (map plain new)
+  add_rising (Ok x) ok err = subst Rising (sym (put_rows ok)) (rising_placed (plain row) (map plain rows) up absent)
+  add_rising (Err x) ok err = subst (λ z. Rising (map plain z)) (sym err) up
 
-      module _ (r : PlainRow) (new : Span) (made : Ok (times new) ≡ span_made start e)
-          (is : plain r ≡ record { id = (get_or s.rows k d).id; start = new.start; end = new.end; key = (get_or s.rows k d).key; value = (get_or s.rows k d).value }) where
-        moved : plain r ≡ with_end e (get_or (held s) k (plain d))
-        moved =
-            let good = span_good start e (times new) made in
-            let here : get_or (held s) k (plain d) ≡ plain (get_or s.rows k d) =
-            get_or-map plain (take s.count s.rows) k d (plain d) (omega (arith, length-take-le s.count s.rows (omega (arith, s.long, s.within))))
-            ∙ ap plain (get_or-take s.count s.rows k d lt) in
-            let same : plain r ≡ with_end e (plain (get_or s.rows k d)) = cc in
-            same ∙ sym (ap (with_end e) here)
+  pub add_few : (r : Result (Unit {0}) E) → (IsOk r → length rows < 128) → OnOk r (new ≡ insert rows k row) → OnErr r (new ≡ rows) → length new ≤ 128
+  add_few (Ok x) room ok err =
+      omega (arith, room refl, ap length (put_rows ok), length-map new plain, length-map rows plain, length_placed (plain row) (map plain rows))
+  add_few (Err x) room ok err = omega (arith, ap length err)
 
-        set_held : map plain (take s.count (set s.rows k r)) ≡ end_set id e (held s)
-        set_held =
-            ap (map plain) (take-set-lt s.count s.rows k r lt) ∙ map-set plain (take s.count s.rows) k r ∙ ap (set (held s) k) moved
-            ∙ ap (λ j. set (held s) j (with_end e (get_or (held s) j (plain d)))) at ∙ sym (end_set_place id e (plain d) (held s) at_place)
+  pub add_told : (r : Result (Unit {0}) E) → (IsOk r → length rows < 128) → (length rows < 128 → IsOk r) → OnOk r (new ≡ insert rows k row) → OnErr r (new ≡ rows)
+      → (a : Result (Unit {0}) Refusal) (Q : E → Type 0) → MatchResult r (λ x. a ≡ Ok x) Q → ((e : E) → Q e → a ≡ Err StoreFull)
+      → outcome a (map plain new) ≡ adds 128 (plain row) (map plain rows)
+  add_told (Ok x) room roomy ok err a Q h full =
+      ap (λ z. outcome z (map plain new)) h ∙ ap accept (put_rows ok) ∙ adds_done 128 (plain row) (map plain rows) absent (omega (arith, room refl, length-map rows plain))
+  add_told (Err x) room roomy ok err a Q h full =
+      ap (λ z. outcome z (map plain new)) (full x h) ∙ ap (λ z. refuse StoreFull (map plain z)) err
+      ∙ adds_full 128 (plain row) (map plain rows) absent
+      (⊎_elim (λ lt. absurd (true≢false (sym (roomy lt)))) (λ le. omega (arith, length-map rows plain)) (cases_lt (length rows) 128))
 
-        pub sets_ordered : in_order (map plain (take s.count (set s.rows k r))) ≡ true
-        sets_ordered = ap in_order set_held ∙ test_from_rising _ (rising_end_set id e (held s) (rising_held s))
+-- a row of the id stands at k
+module _ (rows : List PlainRow) (up : Rising (map plain rows)) (id k : ℕ) (held : holds_id id (map plain rows) ≡ true) (at : k ≡ place id (map plain rows)) where
+  pub held_within : k < length rows
+  held_within = omega (arith, place_within id (map plain rows) up held, length-map rows plain)
 
-        pub sets_told : accept (map plain (take s.count (set s.rows k r))) ≡ sets id e (held s)
-        sets_told = ap accept set_held ∙ sets_done id (held s) e _ (found_told d) (ap (λ n. lawful n e) (sym started) ∙ (span_good start e (times new) made).0)
+  here : has_id id (nth_row (place id (map plain rows)) (map plain rows)) ≡ true
+  here = sym (holds_place id (map plain rows) up) ∙ held
 
--- k is the place of the id of a row that is not held
-module _ (s : SortedStore) (r : PlainRow) (k : ℕ) (at : k ≡ place r.id (held s)) (absent : false ≡ has_id r.id (nth_row k (held s)))
-    (ys : List PlainRow) (put : take (s.count + 1) ys ≡ insert (take s.count s.rows) k r) where
-  put_held : map plain (take (s.count + 1) ys) ≡ placed (plain r) (held s)
-  put_held =
-      ap (map plain) put ∙ map_inserted plain (take s.count s.rows) k r ∙ ap (λ j. insert (held s) j (plain r)) at
-      ∙ sym (placed_place (plain r) (held s) (holds_told s r.id k at false absent))
+  module _ (new : List PlainRow) (cut : new ≡ remove rows k) where
+    cut_rows : map plain new ≡ without id (map plain rows)
+    cut_rows = ap (map plain) cut ∙ map_removed plain rows k ∙ ap (remove (map plain rows)) at ∙ sym (without_place id (map plain rows) here)
 
-  pub adds_ordered : in_order (map plain (take (s.count + 1) ys)) ≡ true
-  adds_ordered = ap in_order put_held ∙ test_from_rising _ (rising_placed (plain r) (held s) (rising_held s) (holds_told s r.id k at false absent))
+    pub remove_rising : Rising (map plain new)
+    remove_rising = subst Rising (sym cut_rows) (rising_without id (map plain rows) up)
 
-  pub adds_told : s.count < 128 → accept (map plain (take (s.count + 1) ys)) ≡ adds 128 (plain r) (held s)
-  adds_told room = ap accept put_held ∙ adds_done 128 (plain r) (held s) (holds_told s r.id k at false absent) (omega (arith, count_held s))
+    pub remove_told : accept (map plain new) ≡ removes id (map plain rows)
+    remove_told = ap accept cut_rows ∙ removes_done id (map plain rows) held
 
--- the rows that stay went to the front
-module _ (s : SortedStore) (g k : ℕ) (ys : List PlainRow) (front : take k ys ≡ filter (stays g) (take s.count s.rows)) where
-  pub purge_held : map plain (take k ys) ≡ kept g (held s)
-  purge_held = ap (map plain) front ∙ kept_plain g (take s.count s.rows)
+  module _ (d : PlainRow) (e start : ℕ) (started : start ≡ (get_or rows k d).span.start) where
+    row_found : found id (map plain rows) ≡ Some (plain (get_or rows k d))
+    row_found =
+        found_at_place id (map plain rows) up held ∙ ap (λ n. nth_row n (map plain rows)) (sym at)
+        ∙ nth_get_or k (map plain rows) (plain d) (omega (arith, held_within, length-map rows plain)) ∙ ap Some (get_or-map plain rows k d (plain d) held_within)
 
-  pub purge_ordered : in_order (map plain (take k ys)) ≡ true
-  purge_ordered = ap in_order purge_held ∙ test_from_rising _ (rising_kept g (held s) (rising_held s))
+    pub end_refused : (why : Refusal) → Err why ≡ span_made start e → refuse why (map plain rows) ≡ sets id e (map plain rows)
+    end_refused why told =
+        let bad = span_bad start e why told in
+        ap (λ z. refuse z (map plain rows)) bad.1 ∙ sets_bad id (map plain rows) e _ row_found (ap (λ n. lawful n e) (sym started) ∙ bad.0)
 
-  pub purge_count : k ≤ length ys → s.count - k ≡ gone g (held s)
-  purge_count le = omega (arith, gone_kept g (held s), count_held s, ap length (sym purge_held), length_held k ys le)
+    -- the row r, of the fields of the row at k with another span, is written over it
+    module _ (span : Span) (made : Ok (times span) ≡ span_made start e) (xs : List PlainRow) (same : xs ≡ rows) (b row : PlainRow)
+        (is : plain row ≡ record { id = (get_or xs k b).id; start = span.start; end = span.end; key = (get_or xs k b).key; value = (get_or xs k b).value })
+        (new : List PlainRow) (write : new ≡ set xs k row) where
+      moved : plain row ≡ with_end e (get_or (map plain rows) k (plain b))
+      moved =
+          let good = span_good start e (times span) made in
+          let read : get_or (map plain rows) k (plain b) ≡ plain (get_or rows k b) = get_or-map plain rows k b (plain b) held_within in
+          let one : get_or rows k d ≡ get_or rows k b = get_or_default rows k d b held_within in
+          let there : get_or xs k b ≡ get_or rows k b = ap (λ zs. get_or zs k b) same in
+          let ended : plain row ≡ with_end e (plain (get_or rows k b)) = cc in
+          ended ∙ sym (ap (with_end e) read)
+
+      end_rows : map plain new ≡ end_set id e (map plain rows)
+      end_rows =
+          ap (map plain) (write ∙ ap (λ zs. set zs k row) same) ∙ map-set plain rows k row ∙ ap (set (map plain rows) k) moved
+          ∙ ap (λ j. set (map plain rows) j (with_end e (get_or (map plain rows) j (plain b)))) at ∙ sym (end_set_place id e (plain b) (map plain rows) here)
+
+      pub end_rising : Rising (map plain new)
+      end_rising = subst Rising (sym end_rows) (rising_end_set id e (map plain rows) up)
+
+      pub end_told : accept (map plain new) ≡ sets id e (map plain rows)
+      end_told = ap accept end_rows ∙ sets_done id (map plain rows) e _ row_found (ap (λ n. lawful n e) (sym started) ∙ (span_good start e (times span) made).0)
+
+-- the start of the row that was read at k
+pub start_read : (rows xs : List PlainRow) → xs ≡ rows → (k : ℕ) (d : PlainRow) (start : ℕ) → start ≡ (get_or xs k d).span.start → start ≡ (get_or rows k d).span.start
+start_read rows xs same k d start is = is ∙ ap (λ zs. (get_or zs k d).span.start) same
+
+-- a write to the slice of a list, which keeps its length
+pub written : (v : ArrayVec PlainRow) (xs : List PlainRow) → xs ≡ v.items → (k : ℕ) (row : PlainRow) → (with_items v (set xs k row)).items ≡ set xs k row
+written v xs same k row = items-with_items v (set xs k row) (length-set xs k row ∙ ap length same)
+
+pub written_few : (v : ArrayVec PlainRow) (xs : List PlainRow) → xs ≡ v.items → (k : ℕ) (row : PlainRow) → length v.items ≤ 128 → length (with_items v (set xs k row)).items ≤ 128
+written_few v xs same k row few = omega (arith, ap length (written v xs same k row), length-set xs k row, ap length same)
+
+-- the rows that a purge leaves
+pub kept_plain : (g : ℕ) (rows : List PlainRow) → map plain (filter (λ (r : PlainRow). not (ltb r.span.end g)) rows) ≡ kept g (map plain rows)
+kept_plain g [] = refl
+kept_plain g (r ∷ rows) = by_test (ltb r.span.end g) (kept_plain g rows)
+  where
+    by_test : (b : Bool) → map plain (filter (λ (r : PlainRow). not (ltb r.span.end g)) rows) ≡ kept g (map plain rows)
+        → map plain (cond (not b) (r ∷ filter (λ (r : PlainRow). not (ltb r.span.end g)) rows) (filter (λ (r : PlainRow). not (ltb r.span.end g)) rows)) ≡ cond b (kept g (map plain rows)) (plain r ∷ kept g (map plain rows))
+    by_test true more = more
+    by_test false more = ap (λ z. plain r ∷ z) more
+
+pub purge_rows : {F : Type 0} (R : F → PlainRow → Bool → F → PlainRow → Type 0) (f : F) (g : ℕ)
+    → ((x : PlainRow) (b : Bool) (f' : F) (y : PlainRow) → R f x b f' y → (b ≡ not (ltb x.span.end g)) × (f' ≡ f) × (y ≡ x))
+    → (rows new : List PlainRow) → RetainsInTurn R f rows new → map plain new ≡ kept g (map plain rows)
+purge_rows R f g says rows new h = ap (map plain) (filter-from_retain R (λ (r : PlainRow). not (ltb r.span.end g)) f says rows new h) ∙ kept_plain g rows

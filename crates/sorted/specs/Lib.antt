@@ -1,4 +1,1 @@
-pub mod Rising
 pub mod Model
-pub mod Held
-pub mod RisingLemmas

@@ -1,13 +1,14 @@
 -- What a sorted store means.
 --     held s                      the rows that the store s holds
---     stays g r                   a purge below g leaves the row r
-use Rattle.std.specs.Prelude.{ℕ, Bool, not, List, map, take, nat_lt}
-use Rattle.rows.specs.declared.row.PlainRow.{PlainRow}
+--     spot id rows                the place of the row of an id, or else the place where it would go
+use Rattle.std.specs.Prelude.{ℕ, cond, List, map, Ok, Err, Result}
 use Rattle.rows.specs.Rows.{Plain, plain}
+use Rattle.receipts.specs.Stores.{holds_id}
+use Rattle.stores.specs.Places.{place}
 use Rattle.sorted.specs.declared.table.SortedStore.{SortedStore}
 
 abbrev pub held : SortedStore → List Plain
-held s = map plain (take s.count s.rows)
+held s = map plain s.rows.items
 
-abbrev pub stays : ℕ → PlainRow → Bool
-stays g r = not (nat_lt r.span.end g)
+abbrev pub spot : ℕ → List Plain → Result ℕ ℕ
+spot id rows = cond (holds_id id rows) (Ok (place id rows)) (Err (place id rows))

@@ -1,18 +1,17 @@
-// A sorted store: the rows in rising id order, and how many there are.
-ghost use Rattle.std.specs.Prelude.{◌≡◌, ◌≤◌, true, map, length, take};
+// A sorted store: the rows in rising id order.
+ghost use Rattle.std.specs.Prelude.{◌≤◌, map, length};
 ghost use Rattle.rows.specs.Rows.{plain};
-ghost use Rattle.sorted.specs.Rising.{in_order};
+ghost use Rattle.receipts.specs.Stores.{Rising};
+ghost use Rattle.stores.proofs.Order.{Rising-prop};
 
+use arrayvec::ArrayVec;
 use rows::row::PlainRow;
 
 pub mod calls;
 
-// Behind the first `count` places stand rows that mean nothing.
-#[derive(Clone, Copy)]
+#[derive(Drop)]
 pub struct SortedStore {
-    rows: [PlainRow; 128],
-    count: usize,
-    ghost long: { length rows ≡ 128 },
-    ghost within: { count ≤ 128 },
-    ghost ordered: { in_order (map plain (take count rows)) ≡ true },
+    rows: ArrayVec<PlainRow, 128>,
+    ghost within: { length rows.items ≤ 128 },
+    ghost rising: { Rising (map plain rows.items) } by { Rising-prop (map plain rows.items) },
 }

@@ -1,11 +1,22 @@
 -- Rows that come, change and go at the place of their id.
-use Rattle.std.proofs.Common.{◌≡◌, ℕ, true, false, eqb, List, [], ◌∷◌, get_or, set, sym, refl, ap, ◌∙◌, ⊎_elim, arith}
+use Rattle.std.proofs.Common.{◌≡◌, ℕ, suc, true, false, eqb, List, [], ◌∷◌, ◌++◌, map, take, drop, get_or, set, sym, refl, ap, ◌∙◌, ⊎_elim, arith}
+use Rattle.std.proofs.lemmas.List.{map-append, take-map, drop-map}
 use Rattle.std.proofs.lemmas.Bool.{cond-true, cond-false, lt-ltb, le-ltb, ne_eqb, eqb-false, or_parts, cases_lt}
 use Rattle.std.specs.List.{insert, remove}
 use Rattle.rows.specs.Rows.{Plain, with_end}
 use Rattle.receipts.specs.Stores.{nth_row, holds_id, placed, end_set, without}
 use Rattle.stores.specs.Places.{place, has_id}
 use Rattle.stores.proofs.Places.{place_more, place_here}
+
+pub map_inserted : {X Y : Type 0} (f : X → Y) (xs : List X) (k : ℕ) (x : X) → map f (insert xs k x) ≡ insert (map f xs) k (f x)
+map_inserted f xs k x =
+    map-append f (take k xs) (x ∷ drop k xs) ∙ ap (λ z. z ++ f x ∷ map f (drop k xs)) (sym (take-map f k xs))
+    ∙ ap (λ z. take k (map f xs) ++ f x ∷ z) (sym (drop-map f k xs))
+
+pub map_removed : {X Y : Type 0} (f : X → Y) (xs : List X) (k : ℕ) → map f (remove xs k) ≡ remove (map f xs) k
+map_removed f xs k =
+    map-append f (take k xs) (drop (suc k) xs) ∙ ap (λ z. z ++ map f (drop (suc k) xs)) (sym (take-map f k xs))
+    ∙ ap (λ z. take k (map f xs) ++ z) (sym (drop-map f (suc k) xs))
 
 pub placed_place : (r : Plain) (m : List Plain) → holds_id r.id m ≡ false → placed r m ≡ insert m (place r.id m) r
 placed_place r [] h = refl

@@ -1,8 +1,18 @@
 -- The id order is kept.
 use Rattle.std.proofs.Common.{◌≡◌, ℕ, ◌<◌, ◌≤◌, false, eqb, ltb, List, [], ◌∷◌, arith}
 use Rattle.std.proofs.lemmas.Bool.{cond_both, ltb-true, ltb-false, eqb-false, or_parts}
+use Rattle.std.specs.Coded.{×_prop, Unit-prop, le_prop}
 use Rattle.rows.specs.Rows.{Plain, with_end}
 use Rattle.receipts.specs.Stores.{Above, Rising, holds_id, placed, end_set, without, kept}
+
+-- that rows rise has one proof at most
+Above-prop : (n : ℕ) (m : List Plain) → IsProp (Above n m)
+Above-prop n [] = Unit-prop
+Above-prop n (x ∷ m) = ×_prop le_prop (Above-prop n m)
+
+pub Rising-prop : (m : List Plain) → IsProp (Rising m)
+Rising-prop [] = Unit-prop
+Rising-prop (x ∷ m) = ×_prop (Above-prop x.id m) (Rising-prop m)
 
 pub above_lower : (n k : ℕ) (m : List Plain) → k ≤ n → Above n m → Above k m
 above_lower n k [] le h = tt

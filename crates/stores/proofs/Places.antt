@@ -1,10 +1,11 @@
 -- What stands at the place of an id.
 use Rattle.std.proofs.Common.{◌≡◌, ℕ, zero, suc, ◌<◌, ◌≤◌, Bool, true, false, cond, ◌||◌, eqb, ltb, List, [], ◌∷◌, map, length, get_or, is_some, Some, None, Option, sym, refl, ap, ◌∙◌, ⊎_elim, arith}
-use Rattle.std.proofs.lemmas.Bool.{cond-true, cond-false, cond_both, lt-ltb, le-ltb, le-leb, lt-leb, ne_eqb, cases_lt}
+use Rattle.std.proofs.lemmas.Bool.{cond-true, cond-false, cond_both, lt-ltb, le-ltb, le-leb, lt-leb, eq-eqb, ne_eqb, cases_lt, true≢false}
 use Rattle.std.specs.List.Sorted.{IsNonDecreasingBy}
 use Rattle.rows.specs.Rows.{Plain}
 use Rattle.receipts.specs.Stores.{Above, Rising, found, first_from, nth_row, holds_id}
 use Rattle.stores.specs.Places.{below, id_of, place, has_id}
+use Rattle.stores.proofs.Parted.{below_split}
 
 pub below_le : {X : Type 0} (number : X → ℕ) (id : ℕ) (xs : List X) → below number id xs ≤ length xs
 below_le number id [] = omega arith
@@ -88,14 +89,57 @@ module _ (id k : ℕ) (m : List Plain) (up : Rising m) (at : k ≡ place id m) w
   pub found_none : false ≡ has_id id (nth_row k m) → found id m ≡ None
   found_none h = found_place id m up (nth_row k m) (ap (λ n. nth_row n m) at) ∙ cond-false _ _ _ (sym h)
 
-pub rises_rising : (m : List Plain) → Rising m → IsNonDecreasingBy id_of m
-rises_rising [] h i j d le lt = absurd (omega arith)
-rises_rising (x ∷ m) h zero zero d le lt = omega arith
-rises_rising (x ∷ m) h (suc i) zero d le lt = absurd (omega arith)
-rises_rising (x ∷ m) h zero (suc j) d le lt = omega (arith, above_at x.id m h.0 j (omega arith))
+-- a row with a lower id stands at each place in front of another
+pub rises_apart : (m : List Plain) → Rising m → (i j : ℕ) (d : Plain) → i < j → j < length m → id_of (get_or m i d) < id_of (get_or m j d)
+rises_apart [] h i j d l lt = absurd (omega arith)
+rises_apart (x ∷ xs) h i zero d l lt = absurd (omega arith)
+rises_apart (x ∷ xs) h zero (suc j) d l lt = above_at x.id xs h.0 j (omega arith)
   where
     above_at : (n : ℕ) (m : List Plain) → Above n m → (j : ℕ) → j < length m → n < id_of (get_or m j d)
     above_at n [] h j lt = absurd (omega arith)
     above_at n (x ∷ m) h zero lt = h.0
     above_at n (x ∷ m) h (suc j) lt = above_at n m h.1 j (omega arith)
-rises_rising (x ∷ m) h (suc i) (suc j) d le lt = rises_rising m h.1 i j d (omega arith) (omega arith)
+rises_apart (x ∷ xs) h (suc i) (suc j) d l lt = rises_apart xs h.1 i j d (omega arith) (omega arith)
+
+pub rises_rising : (m : List Plain) → Rising m → IsNonDecreasingBy id_of m
+rises_rising m h i j d le lt =
+    ⊎_elim (λ l. omega (arith, rises_apart m h i j d l lt)) (λ l. let same : i ≡ j = omega arith in omega (arith, ap (λ k. id_of (get_or m k d)) same)) (cases_lt i j)
+
+-- k is the place of a row of the id, or a place between the lower and the higher ids
+module _ (m : List Plain) (up : Rising m) (id k : ℕ) where
+  pub at_row : k < length m → ((d : Plain) → id_of (get_or m k d) ≡ id) → (holds_id id m ≡ true) × (k ≡ place id m)
+  at_row lt there =
+      let here : k ≡ place id m = below_split id_of id k m (omega arith)
+      (λ j d l. omega (arith, rises_apart m up j k d l lt, there d))
+      (λ j d l n. omega (arith, rises_rising m up k j d l n, there d)) in
+      let d : Plain = record { id = 0; start = 0; end = 0; key = 0; value = 0 } in (
+        holds_place id m up ∙ ap (λ n. has_id id (nth_row n m)) (sym here) ∙ ap (has_id id) (nth_get_or k m d lt) ∙ eq-eqb _ _ (there d),
+        here,
+      )
+
+  pub at_gap : k ≤ length m → ((j : ℕ) (d : Plain) → j < k → id_of (get_or m j d) < id) → ((j : ℕ) (d : Plain) → k ≤ j → j < length m → id < id_of (get_or m j d))
+      → (holds_id id m ≡ false) × (k ≡ place id m)
+  at_gap le front back =
+      let here : k ≡ place id m = below_split id_of id k m le front (λ j d l n. omega (arith, back j d l n)) in
+      let d : Plain = record { id = 0; start = 0; end = 0; key = 0; value = 0 } in (
+        holds_place id m up ∙ ap (λ n. has_id id (nth_row n m)) (sym here)
+            ∙ ⊎_elim (λ lt. ap (has_id id) (nth_get_or k m d lt) ∙ ne_eqb _ _ (λ e. omega (arith, back k d (omega arith) lt))) (λ past. ap (has_id id) (nth_past k m past)) (cases_lt k (length m)),
+        here,
+      )
+
+-- the row of an id that is held stands at its place
+module _ (id : ℕ) (m : List Plain) where
+  pub found_at_place : Rising m → holds_id id m ≡ true → found id m ≡ nth_row (place id m) m
+  found_at_place up h = found_place id m up _ refl ∙ cond-true _ _ _ (sym (holds_place id m up) ∙ h)
+
+  pub found_nothing : holds_id id m ≡ false → found id m ≡ None
+  found_nothing h = is_some_none (found id m) (sym (holds_found id m) ∙ h)
+    where
+      is_some_none : (o : Option Plain) → is_some o ≡ false → o ≡ None
+      is_some_none None e = refl
+      is_some_none (Some x) e = absurd (true≢false e)
+
+  pub place_within : Rising m → holds_id id m ≡ true → place id m < length m
+  place_within up h =
+      ⊎_elim (λ lt. lt)
+      (λ past. absurd (true≢false (sym h ∙ holds_place id m up ∙ ap (has_id id) (nth_past (place id m) m past)))) (cases_lt (place id m) (length m))

@@ -1,5 +1,5 @@
 -- Rows of the code as plain numbers.
-use Rattle.std.proofs.Common.{◌≡◌, ℕ, true, eqb, List, [], ◌∷◌, map, sym, ap, ⊎_elim, arith}
+use Rattle.std.proofs.Common.{◌≡◌, ℕ, ◌≤◌, true, eqb, length, List, [], ◌∷◌, map, sym, ap, ⊎_elim, arith}
 use Rattle.std.proofs.lemmas.List.{get_or-map, length-map}
 use Rattle.std.proofs.lemmas.Bool.{and_from, or_left, or_right, le-leb, lt-ltb, eq-eqb, cases_lt}
 use Rattle.std.specs.List.Sorted.{IsNonDecreasingBy}
@@ -18,6 +18,9 @@ span_lawful s =
     (and_from _ _
     (⊎_elim (λ lt. or_right (finite s.end) _ (eq-eqb s.end forever (s.ended lt))) (λ le. or_left _ (eqb s.end forever) (le-leb s.end last le)) (cases_lt last s.end))
     (lt-ltb s.start s.end s.forward))
+
+pub within_plain : (n : ℕ) (rows : List PlainRow) → length rows ≤ n → length (map plain rows) ≤ n
+within_plain n rows le = omega (arith, length-map rows plain)
 
 pub numbered_plain : (rows : List PlainRow) → Numbered (map plain rows)
 numbered_plain [] = tt

@@ -2,9 +2,11 @@ use Rattle.std.proofs.Common.{sym, ap, ◌∙◌}
 use Rattle.receipts.specs.Stores.{nth_row}
 use Rattle.stores.proofs.Places.{first_place}
 use Rattle.sorted.specs.Model.{held}
+use Rattle.sorted.proofs.Changes.{place_told}
 use Rattle.sorted.proofs.table.calls.SortedStoreStore.first_from.Goals as goal
 
 pub returns : goal.returns
 returns c =
-    let m = held c.args.self.now in
-    c.row_at.ensures ∙ ap (λ n. nth_row n m) c.place.ensures ∙ sym (first_place c.args.id m)
+    let s = c.args.self.now in
+    let here = place_told c.args.id _ s.rows.items _ c.deref.ensures.0 s.rising c.place_of.ensures.place in
+    c.row_at.ensures ∙ ap (λ n. nth_row n (held s)) here ∙ sym (first_place c.args.id (held s))

@@ -1,20 +1,27 @@
-use Rattle.std.proofs.Common.{◌∙◌, arith}
-use Rattle.sorted.proofs.Changes.{purge_held, purge_ordered, purge_count}
+use Rattle.std.proofs.Common.{length, subst, sym, ap, rules, arith}
+use Rattle.std.proofs.lemmas.List.{length-map}
+use Rattle.rows.specs.Rows.{plain}
+use Rattle.receipts.specs.Stores.{Rising}
+use Rattle.stores.proofs.Lengths.{gone_kept}
+use Rattle.stores.proofs.Order.{rising_kept}
+use Rattle.sorted.specs.Model.{held}
+use Rattle.sorted.proofs.Changes.{purge_rows}
 use Rattle.sorted.proofs.table.calls.SortedStoreStore.purge.Goals as goal
 
 pub invariant_of-self : goal.invariant_of-self
 invariant_of-self c =
-    let s = c.args.self.now in record {
-      long = c.keep_from-kept.auto.rows ∙ s.long;
-      within = omega arith;
-      ordered = purge_ordered s c.args.below _ c.keep_from-kept.new.rows c.keep_from-kept.ensures.front;
+    let s = c.args.self.now in
+    let left = purge_rows _ _ c.args.below (λ x b f' y called. search rules) _ _ c.retain.ensures.filtered in
+    record {
+      within = omega (arith, c.retain.ensures.bound, s.within);
+      rising = subst Rising (sym left) (rising_kept c.args.below (held s) s.rising);
     }
 
 pub returns : goal.returns
 returns c =
     let s = c.args.self.now in
-    let front = c.keep_from-kept.ensures.front in
+    let left = purge_rows _ _ c.args.below (λ x b f' y called. search rules) _ _ c.retain.ensures.filtered in
     record {
-      count = purge_count s c.args.below _ c.keep_from-kept.new.rows front (omega arith);
-      after = purge_held s c.args.below _ c.keep_from-kept.new.rows front;
+      count = omega (arith, gone_kept c.args.below (held s), ap length left, length-map s.rows.items plain, length-map c.retain.new.self.items plain, c.len-before.ensures.value, c.len.ensures.value);
+      after = left;
     }

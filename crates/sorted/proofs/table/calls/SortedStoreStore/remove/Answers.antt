@@ -1,24 +1,36 @@
-use Rattle.std.proofs.Common.{false, ◌∙◌, arith}
+use Rattle.std.proofs.Common.{Err, lit<, ap, ◌∙◌, arith, rules}
+use Rattle.std.proofs.lemmas.Result.{err_from_is_err_and}
+use Rattle.refusals.specs.declared.refusal.Refusal.TheVariants.{NoSuchRow}
+use Rattle.stores.specs.Told.{outcome}
 use Rattle.stores.proofs.Outcomes.{removes_none}
 use Rattle.sorted.specs.Model.{held}
-use Rattle.sorted.proofs.Changes.{holds_told, removes_ordered, removes_told}
+use Rattle.sorted.proofs.Changes.{ok_told, err_told, held_within, remove_rising, remove_told}
 use Rattle.sorted.proofs.table.calls.SortedStoreStore.remove.Goals as goal
 
-pub returns-then-not-has : goal.returns-then-not-has
-returns-then-not-has c =
+pub remove-requires : goal.remove-requires
+remove-requires c =
     let s = c.args.self.now in
-    removes_none c.args.id (held s) (holds_told s c.args.id _ c.place-place.ensures false c.if-not-has.ensures.value)
+    let told = ok_told c.args.id (held s) _ _ c.find.ensures _ c.in_ok-place.ensures.cases (λ p h. h) in
+    (lit< tt, held_within s.rows.items s.rising c.args.id _ told.0 told.1)
 
 pub invariant_of-self : goal.invariant_of-self
 invariant_of-self c =
     let s = c.args.self.now in
-    let told = c.if-not-has.ensures in record {
-      long = c.cut.auto.rows ∙ s.long;
-      within = omega arith;
-      ordered = removes_ordered s c.args.id _ c.place-place.ensures told.value (told.within tt) c.cut.new.rows c.cut.ensures;
+    let told = ok_told c.args.id (held s) _ _ c.find.ensures _ c.in_ok-place.ensures.cases (λ p h. h) in
+    record {
+      within = omega (arith, c.remove.ensures.len, s.within);
+      rising = remove_rising s.rows.items s.rising c.args.id _ told.0 told.1 _ c.remove.ensures.items;
     }
+
+pub returns-in_err-place : goal.returns-in_err-place
+returns-in_err-place c =
+    let s = c.args.self.now in
+    let told = err_told c.args.id (held s) _ _ c.find.ensures _ c.in_err-place.ensures.cases NoSuchRow (λ p h. search rules) in
+    let err = err_from_is_err_and c.from_residual.result c.from_residual.ensures.1 in
+    ap (λ a. outcome a (held s)) (err.1 ∙ ap Err (err.2 ∙ told.1)) ∙ removes_none c.args.id (held s) told.0
 
 pub returns : goal.returns
 returns c =
-    let told = c.if-not-has.ensures in
-    removes_told c.args.self.now c.args.id _ c.place-place.ensures told.value (told.within tt) c.cut.new.rows c.cut.ensures
+    let s = c.args.self.now in
+    let told = ok_told c.args.id (held s) _ _ c.find.ensures _ c.in_ok-place.ensures.cases (λ p h. h) in
+    remove_told s.rows.items s.rising c.args.id _ told.0 told.1 _ c.remove.ensures.items

@@ -1,9 +1,7 @@
-use Rattle.std.proofs.Common.{sym, arith}
-use Rattle.sorted.specs.Held.{nth_held, nth_held_past}
+use Rattle.std.proofs.Common.{ap, ◌∙◌}
+use Rattle.stores.specs.Told.{seen}
+use Rattle.sorted.proofs.Changes.{row_told}
 use Rattle.sorted.proofs.table.calls.SortedStoreStore.row_at.Goals as goal
 
-pub returns-then-place-self : goal.returns-then-place-self
-returns-then-place-self c = sym (nth_held _ c.args.self.now.rows _ _ (omega arith) c.if-place-self.true)
-
-pub returns-else-place-self : goal.returns-else-place-self
-returns-else-place-self c = sym (nth_held_past _ c.args.self.now.rows _ (omega arith) c.if-place-self.false)
+pub returns : goal.returns
+returns c = ap seen c.copied.ensures ∙ row_told c.args.self.now.rows.items _ c.deref.ensures.0 c.args.place _ c.get.ensures.lookup.3
