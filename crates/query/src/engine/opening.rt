@@ -1,6 +1,6 @@
 // A new query.
 ghost use Rattle.std.specs.Prelude.{◌≡◌};
-ghost use Rattle.query.specs.Queries.{setting, setup, state, opened, opens};
+ghost use Rattle.query.specs.Queries.{setting, opened, opens};
 
 use crate::engine::{Query, WIDEST};
 use crate::input::Input;
@@ -12,7 +12,7 @@ use stores::store::Store;
 impl<L: Payload, R: Payload, S: Store, T: Store> Query<L, R, S, T> {
     // A query with windows of a width, or BadWidth: closed time and CTIs 0, and no rows.
     pub fn new(width: u32) -> Result<Query<L, R, S, T>, Fault>
-        ensures { opened (setup L.Payload.kind R.Payload.kind S.Store.capacity T.Store.capacity) (state S.Store.rows T.Store.rows) result
+        ensures { opened result
             ≡ opens (setting L.Payload.kind R.Payload.kind S.Store.capacity T.Store.capacity width) }
     {
         if width < 1 || width > WIDEST {

@@ -11,21 +11,21 @@ use stores::store::Store;
 impl<L: Payload, R: Payload, S: Store, T: Store> Query<L, R, S, T> {
     // The width of its windows.
     pub fn width(&self) -> u32
-        ensures { result ≡ (setup L.Payload.kind R.Payload.kind S.Store.capacity T.Store.capacity self.now).width }
+        ensures { result ≡ (setup self.now).width }
     {
         self.width
     }
 
     // The end of the last window that was closed, 0 at first.
     pub fn closed_time(&self) -> u32
-        ensures { result ≡ asked (state S.Store.rows T.Store.rows self.now) closed_time }
+        ensures { result ≡ asked (state self.now) closed_time }
     {
         self.closed
     }
 
     // The CTI of a side, 0 at first.
     pub fn cti(&self, side: Side) -> u32
-        ensures { result ≡ asked (state S.Store.rows T.Store.rows self.now) (cti_of side) }
+        ensures { result ≡ asked (state self.now) (cti_of side) }
     {
         match side {
             Side::Left => self.left.cti(),
@@ -35,7 +35,7 @@ impl<L: Payload, R: Payload, S: Store, T: Store> Query<L, R, S, T> {
 
     // How many rows a side holds.
     pub fn held(&self, side: Side) -> usize
-        ensures { result ≡ asked (state S.Store.rows T.Store.rows self.now) (held_of side) }
+        ensures { result ≡ asked (state self.now) (held_of side) }
     {
         match side {
             Side::Left => self.left.held(),

@@ -3,8 +3,8 @@ ghost use Rattle.std.specs.Prelude.{◌≡◌, true, []};
 ghost use Rattle.receipts.specs.Queries.{retracts, with_held, stored, taken, event_refused, event_answer};
 ghost use Rattle.receipts.specs.Stores.{found};
 ghost use Rattle.rows.specs.Events.{plain_event, timely};
-ghost use Rattle.rows.specs.Rows.{plain, plain_of, same};
-ghost use Rattle.query.specs.Halves.{half, half_outcome};
+ghost use Rattle.rows.specs.Rows.{plain_of};
+ghost use Rattle.query.specs.Halves.{half_outcome};
 ghost use Rattle.query.specs.Answers.{event_told};
 
 use crate::input::Input;
@@ -12,60 +12,45 @@ use refusals::fault::{Fault, Side};
 use refusals::refusal::Refusal;
 use rows::event::Event;
 use rows::payload::Payload;
-use rows::row::{PlainRow, Row};
+use rows::row::Row;
 use stores::store::Store;
-
-// Whether two rows are equal in all five numbers.
-fn same(x: &PlainRow, y: &PlainRow) -> bool
-    ensures { result ≡ same (plain x.now) (plain y.now) }
-{
-    x.id == y.id
-        && x.span.start() == y.span.start()
-        && x.span.end() == y.span.end()
-        && x.key == y.key
-        && x.value == y.value
-}
 
 // The fault of a refused event: its side and, where the CTI is violated, that CTI.
 fn event_fault(side: Side, cti: u32, why: Refusal) -> Fault
     ensures { result ≡ event_refused side (record { cti = cti; held = [] }) why }
 {
-    let fault = match why {
-        Refusal::CtiViolated => Fault::bare(why).with_cti(cti),
-        _ => Fault::bare(why),
-    };
-    fault.on_side(side)
+    Fault {
+        side: Some(side),
+        cti: (why == Refusal::CtiViolated).then_some(cti),
+        ..Fault::bare(why)
+    }
 }
 
 impl<P: Payload, S: Store> Input<P, S> {
     // Moves the end of the row that a retraction names, or takes the row away where the new end is its start. The held
     // row of that id has to equal it in every number.
     fn retract(&mut self, row: Row<P>, new_end: u32) -> Result<(), Refusal>
-        ensures { half_outcome result (half S.Store.rows self.new)
-            ≡ with_held (half S.Store.rows self.old)
+        ensures { half_outcome result self.new
+            ≡ with_held self.old
             (retracts (plain_of P.Payload.pair row) new_end
-            (found row.id (half S.Store.rows self.old).held) (half S.Store.rows self.old).held) }
+            (found row.id self.old.held) self.old.held) }
     {
-        match self.store.get(row.id) {
-            None => Err(Refusal::NoSuchRow),
-            Some(held) => {
-                if !same(&held, &row.plain()) {
-                    return Err(Refusal::OtherRow);
-                }
-                if new_end == row.span.start() {
-                    self.store.remove(row.id)
-                } else {
-                    self.store.set_end(row.id, new_end)
-                }
-            }
+        let held = self.store.get(row.id).ok_or(Refusal::NoSuchRow)?;
+        if held != row.plain() {
+            return Err(Refusal::OtherRow);
+        }
+        if new_end == row.span.start() {
+            self.store.remove(row.id)
+        } else {
+            self.store.set_end(row.id, new_end)
         }
     }
 
     // Brings an event whose times are lawful into the input.
     fn apply(&mut self, event: Event<P>) -> Result<(), Refusal>
         requires { timely (plain_event P.Payload.pair event) ≡ true }
-        ensures { half_outcome result (half S.Store.rows self.new)
-            ≡ stored S.Store.capacity (plain_event P.Payload.pair event) (half S.Store.rows self.old) }
+        ensures { half_outcome result self.new
+            ≡ stored S.Store.capacity (plain_event P.Payload.pair event) self.old }
     {
         match event {
             Event::Insert(row) => self
@@ -82,8 +67,8 @@ impl<P: Payload, S: Store> Input<P, S> {
     // Takes an event, or tells why not: of several refusals the one with the smallest number. A payload is in its kind's
     // range, so it is never refused.
     fn accept(&mut self, event: Event<P>) -> Result<(), Refusal>
-        ensures { half_outcome result (half S.Store.rows self.new)
-            ≡ taken P.Payload.kind S.Store.capacity (plain_event P.Payload.pair event) (half S.Store.rows self.old) }
+        ensures { half_outcome result self.new
+            ≡ taken P.Payload.kind S.Store.capacity (plain_event P.Payload.pair event) self.old }
     {
         event.judge_times()?;
         if event.sync() < self.cti {
@@ -94,15 +79,13 @@ impl<P: Payload, S: Store> Input<P, S> {
 
     // Takes an event of a side, or tells the fault. A refused event changes nothing.
     pub fn take(&mut self, side: Side, event: Event<P>) -> Result<(), Fault>
-        ensures answer { event_told result ≡ event_answer side (half S.Store.rows self.old)
-            (taken P.Payload.kind S.Store.capacity (plain_event P.Payload.pair event) (half S.Store.rows self.old)).answer }
-        ensures after { half S.Store.rows self.new
-            ≡ (taken P.Payload.kind S.Store.capacity (plain_event P.Payload.pair event) (half S.Store.rows self.old)).after }
+        ensures answer { event_told result ≡ event_answer side self.old
+            (taken P.Payload.kind S.Store.capacity (plain_event P.Payload.pair event) self.old).answer }
+        ensures after { self.new
+            ≡ (taken P.Payload.kind S.Store.capacity (plain_event P.Payload.pair event) self.old).after }
     {
         let cti = self.cti;
-        match self.accept(event) {
-            Ok(()) => Ok(()),
-            Err(why) => Err(event_fault(side, cti, why)),
-        }
+        self.accept(event)
+            .map_err(|why| event_fault(side, cti, why))
     }
 }

@@ -2,7 +2,6 @@
 ghost use Rattle.std.specs.Prelude.{◌≡◌, ◌≤◌, length};
 ghost use Rattle.receipts.specs.Queries.{new_half, purged};
 ghost use Rattle.receipts.specs.Stores.{gone};
-ghost use Rattle.query.specs.Halves.{half};
 
 use crate::input::Input;
 use rows::payload::Payload;
@@ -11,7 +10,7 @@ use stores::store::{Purged, Store};
 
 impl<P: Payload, S: Store> Input<P, S> {
     pub fn new() -> Input<P, S>
-        ensures { half S.Store.rows result ≡ new_half }
+        ensures { result ≡ new_half }
     {
         Input {
             store: S::new(),
@@ -21,14 +20,14 @@ impl<P: Payload, S: Store> Input<P, S> {
     }
 
     pub fn store(&self) -> &S
-        ensures { result.now ≡ self.now.store }
+        ensures { S.Store.rows result.now ≡ self.now.held }
     {
         &self.store
     }
 
     // The CTI, which is finite.
     pub fn cti(&self) -> u32
-        ensures value { result ≡ (half S.Store.rows self.now).cti }
+        ensures value { result ≡ self.now.cti }
         ensures finite { result ≤ 4000000000 }
     {
         self.cti
@@ -36,15 +35,15 @@ impl<P: Payload, S: Store> Input<P, S> {
 
     // How many rows are held.
     pub fn held(&self) -> usize
-        ensures { result ≡ length (half S.Store.rows self.now).held }
+        ensures { result ≡ length self.now.held }
     {
         self.store.count()
     }
 
     // Removes the rows that end below a time.
     pub fn purge(&mut self, below: u32) -> Purged
-        ensures count { result.count ≡ gone below (half S.Store.rows self.old).held }
-        ensures after { half S.Store.rows self.new ≡ purged below (half S.Store.rows self.old) }
+        ensures count { result.count ≡ gone below self.old.held }
+        ensures after { self.new ≡ purged below self.old }
     {
         self.store.purge(below)
     }
