@@ -29,7 +29,7 @@ impl<L: Payload, R: Payload, S: Store, T: Store> Query<L, R, S, T> {
         ensures later { drop (lines_told result) lines.new ≡ drop (lines_told result) lines.old }
     {
         if !self.may_close() {
-            return Err(Fault::bare(Refusal::NotYet));
+            return Err(Refusal::NotYet.into());
         }
         let start = self.closed;
         let end = start + self.width;
@@ -39,7 +39,7 @@ impl<L: Payload, R: Payload, S: Store, T: Store> Query<L, R, S, T> {
             start,
             end,
             lines,
-        ).map_err(Fault::bare)?;
+        )?;
         let left = self.left.purge(end);
         let right = self.right.purge(end);
         self.closed = end;

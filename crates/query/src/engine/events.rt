@@ -12,6 +12,7 @@ use rows::event::Event;
 use rows::payload::Payload;
 use stores::store::Store;
 
+// One line for each side: their events are of two types, so the side cannot be an argument.
 impl<L: Payload, R: Payload, S: Store, T: Store> Query<L, R, S, T> {
     // Takes an event of the left side, or tells the fault, on that side. A refused event changes nothing.
     pub fn left_event(&mut self, event: Event<L>) -> Result<(), Fault>

@@ -16,7 +16,7 @@ impl<L: Payload, R: Payload, S: Store, T: Store> Query<L, R, S, T> {
             ≡ opens (setting L.Payload.kind R.Payload.kind S.Store.capacity T.Store.capacity width) }
     {
         if width < 1 || width > WIDEST {
-            return Err(Fault::bare(Refusal::BadWidth));
+            return Err(Refusal::BadWidth.into());
         }
         Ok(Query {
             width,

@@ -22,7 +22,7 @@ fn event_fault(side: Side, cti: u32, why: Refusal) -> Fault
     Fault {
         side: Some(side),
         cti: (why == Refusal::CtiViolated).then_some(cti),
-        ..Fault::bare(why)
+        ..why.into()
     }
 }
 
