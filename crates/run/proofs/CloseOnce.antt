@@ -1,5 +1,5 @@
 -- One closing of a run: what it wrote is what the model writes, and it is refused for what the model refuses.
-use Rattle.std.proofs.Common.{◌≡◌, ℕ, zero, suc, ◌+◌, ◌-◌, ◌<◌, ◌≤◌, Bool, true, false, cond, leb, List, [], ◌∷◌, ◌++◌, length, take, drop, set, Ok, Err, Result, sym, refl, ap, ◌∙◌, arith, length-append, take-add}
+use Rattle.std.proofs.Common.{◌≡◌, ℕ, zero, suc, ◌+◌, ◌-◌, ◌<◌, ◌≤◌, Bool, true, false, cond, leb, List, [], ◌∷◌, ◌++◌, length, take, drop, set, Some, None, Option, Ok, Err, Result, sym, refl, ap, ◌∙◌, arith, length-append, take-add}
 use Rattle.std.proofs.lemmas.List.{take_more_set, length-take-le, length-drop}
 use Rattle.std.proofs.lemmas.Slice.{between_to_end}
 use Rattle.std.proofs.lemmas.Bool.{cond-true, cond-false, le-leb, lt-leb, leb-true, leb-false}
@@ -22,6 +22,11 @@ use Rattle.run.specs.Closings.{closing_told_from}
 pub told_from : (n : ℕ) (r : Result Window Fault) (ls part : List Line) → drop n ls ≡ part → closing_told_from n r ls ≡ closing_told r part
 told_from n (Ok w) ls part e = ap (λ xs. closed w (take w.lines xs)) e
 told_from n (Err f) ls part e = refl
+
+-- what a closing was refused for
+abbrev pub refusal_of : Result Window Fault → Option Refusal
+refusal_of (Ok w) = None
+refusal_of (Err f) = Some f.refusal
 
 pub part_size : {X : Type 0} (n : ℕ) (xs : List X) → length (between n (length xs) xs) ≡ length xs - n
 part_size n xs = ap length (between_to_end xs n (length xs) (omega arith)) ∙ length-drop n xs
@@ -97,14 +102,23 @@ module _ (s : Setup) (q : QueryState) (ls : List Line) (ws : List Window) (n m :
       why : (room ≡ false) × (f ≡ bare_fault LinesFull) × (q' ≡ q)
       why = refused_by room s q q' f (told ∙ cond-true (may_close s q) _ _ may)
 
-      pub lines_full : stops (standing q' rest over ls' ws (record { lines = n; windows = m })) (blame f.refusal)
+      told_full : stops (standing q' rest over ls' ws (record { lines = n; windows = m })) (blame f.refusal)
           ≡ closings s (places ls ws) blame (length ws - m) (standing q rest over ls ws (record { lines = n; windows = m }))
-      lines_full =
+      told_full =
           let one_more : length ws - m ≡ suc (length ws - (m + 1)) = omega (arith, free) in
           (λ i. stops (record { query = why.2 i; rest = rest; over = over; lines = earlier i; windows = take m ws }) (blame (why.1 i).refusal))
           ∙ sym (ap (λ k. closings s (places ls ws) blame k (standing q rest over ls ws (record { lines = n; windows = m }))) one_more
           ∙ cond-true (may_close s q) _ _ may
           ∙ cond-false _ _ _ (lt-leb (length (take n ls ++ sought)) (length ls) (omega (arith, all_lines, leb-false (length sought) (length ls - n) why.0))))
+
+    pub lines_full : (r : Result Window Fault) (w : Refusal) → refusal_of r ≡ Some w → answers (closing_told_from n r ls') q' ≡ called s q (closing (length ls - n)) →
+        m < length ws → (rest : Both (List Entry)) (over : Both Bool) (blame : Refusal → Fault) →
+        stops (standing q' rest over ls' ws (record { lines = n; windows = m })) (blame w)
+        ≡ closings s (places ls ws) blame (length ws - m) (standing q rest over ls ws (record { lines = n; windows = m }))
+    lines_full (Ok v) w is told free rest over blame = cc
+    lines_full (Err f) w is told free rest over blame =
+        let same : w ≡ f.refusal = cc in
+        ap (λ z. stops (standing q' rest over ls' ws (record { lines = n; windows = m })) (blame z)) same ∙ told_full f told free rest over blame
 
   pub windows_full : length ws ≤ m → (rest : Both (List Entry)) (over : Both Bool) (blame : Refusal → Fault) →
       stops (standing q rest over ls ws (record { lines = n; windows = m })) (blame WindowsFull)

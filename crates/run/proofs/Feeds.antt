@@ -19,12 +19,13 @@ use Rattle.receipts.specs.Transcripts.{accepts}
 use Rattle.receipts.proofs.Calls.{event_cases}
 use Rattle.receipts.proofs.Sides.{put_same}
 use Rattle.rewriting.specs.Streams.{Stream}
+use Rattle.query.specs.Answers.{answers}
 use Rattle.run_laws.specs.Runs.{Places, RunState, Report, Turn, goes_on, stops, closings, run_fault, located, with_side, heard, outcome, over_on, ended, take_from, report, continued}
 use Rattle.sources.specs.Taking.{first_of, behind, rest_of}
 use Rattle.run.specs.declared.feeding.Step.{Step}
 use Rattle.run.specs.declared.feeding.Step.TheVariants as step
-use Rattle.run.specs.Steps.{is_cti, ending_step, answer_step, Fed, fed, stepped_by, stepped}
-use Rattle.run.specs.Turns.{entries_of, shallows, tails}
+use Rattle.run.specs.Steps.{at, told_on, next_by, next_on, answered, is_cti, ending_step, answer_step, Fed, fed, stepped_by, stepped}
+use Rattle.run.specs.Turns.{entries_of, shallows}
 
 abbrev pub after_step : Setup → Places → Side → RunState → Result Step Fault → Turn
 after_step s p side x (Err f) = stops x f
@@ -67,14 +68,14 @@ module _ (s : Setup) (p : Places) (side : Side) (srcs : Both Stream) (x : RunSta
       ap (λ q. report (after q es) (Err f)) (keeps refl)
 
   ended_turn : (w : Ending) → pick side x.rest ≡ [] →
-      continued (after_step s p side (after x.query []) (ending_step side w)) go ≡ continued (ended side w x) go
+      continued (after_step s p side (after x.query []) (ending_step (told_on side w))) go ≡ continued (ended side w x) go
   ended_turn (Ok tt) none =
       ap (λ rest. go (over_on side (record { query = x.query; rest = rest; over = x.over; lines = x.lines; windows = x.windows })))
       (ap (λ es. put side es x.rest) (sym none) ∙ put_same side x.rest)
   ended_turn (Err f) none = refl
 
   abbrev made : List Entry → Fed
-  made es = stepped_by s x.query side (pick side srcs).depth (first_of es (pick side srcs).ending)
+  made es = stepped_by s x.query side (next_by side (pick side srcs).depth (first_of es (pick side srcs).ending))
 
   fed_turn : (es : List Entry) → pick side x.rest ≡ es →
       continued (after_step s p side (after (made es).query (behind es)) (made es).step) go ≡ continued (take_from s p srcs x side es) go
@@ -90,11 +91,11 @@ answer_brings depth n c (closed w ls) e es = add-one (length es)
 answer_brings depth n c (told x) e es = add-one (length es)
 answer_brings depth n c (refused f) e es = tt
 
-ending_brings : (side : Side) (w : Ending) → Brings (ending_step side w) []
+ending_brings : (side : Side) (w : Ending) → Brings (ending_step (told_on side w)) []
 ending_brings side (Ok tt) = refl
 ending_brings side (Err f) = tt
 
-step_brings : (s : Setup) (q : QueryState) (side : Side) (depth : ℕ) (w : Ending) (es : List Entry) → Brings (stepped_by s q side depth (first_of es w)).step es
+step_brings : (s : Setup) (q : QueryState) (side : Side) (depth : ℕ) (w : Ending) (es : List Entry) → Brings (stepped_by s q side (next_by side depth (first_of es w))).step es
 step_brings s q side depth w [] = ending_brings side w
 step_brings s q side depth w (e ∷ es) = answer_brings depth e.0 (is_cti e.1) (called s q (event side e.1)).answer e es
 
@@ -107,9 +108,16 @@ put_entries : (side : Side) (srcs : Both Stream) →
 put_entries Left srcs = refl
 put_entries Right srcs = refl
 
-pub tails_kept : (side : Side) (srcs : Both Stream) → tails (put side (rest_of (pick side srcs)) srcs) ≡ tails srcs
-tails_kept Left srcs = refl
-tails_kept Right srcs = refl
+-- a side that is chosen heard its event, and the query answered it
+pub heard_step : (s : Setup) (q q' : QueryState) (x side : Side) → x ≡ side → (srcs : Both Stream) (depth n : ℕ) (e : PlainEvent) (a : Answer) (r : Result Step Fault) →
+    at depth n e ≡ next_on x (pick side srcs) → answers a q' ≡ called s q (event side e) → r ≡ answer_step depth n (is_cti e) a →
+    fed r q' ≡ stepped s q x (pick x srcs)
+heard_step s q q' x side chosen srcs depth n e a r heard_it answers_it is =
+    (λ i. fed (is i) q')
+    ∙ ap (answered depth n e) answers_it
+    ∙ ap (λ y. stepped_by s q y (at depth n e)) (sym chosen)
+    ∙ ap (stepped_by s q x) heard_it
+    ∙ ap (λ y. stepped s q x (pick y srcs)) (sym chosen)
 
 module _ (side : Side) (srcs srcs' : Both Stream) (after : srcs' ≡ put side (rest_of (pick side srcs)) srcs) where
   abbrev es : List Entry

@@ -5,4 +5,3 @@ mod Spent
 mod TurnsTaken
 mod RunsTurned
 mod Promised
-mod Openings

@@ -1,7 +1,8 @@
 -- Turn after turn, a run comes to what the model's run comes to.
-use Rattle.std.proofs.Common.{◌≡◌, ℕ, zero, suc, ◌+◌, ◌-◌, ◌<◌, Bool, true, false, ◌&&◌, List, [], ◌∷◌, Some, None, Option, sym, refl, ap, ◌∙◌, arith, Ok, Err}
+use Rattle.std.proofs.Common.{◌≡◌, ℕ, zero, suc, ◌+◌, ◌-◌, ◌<◌, Bool, true, false, ◌&&◌, List, [], ◌∷◌, sym, refl, ap, ◌∙◌, arith, Ok, Err}
 use Rattle.std.proofs.lemmas.Bool.{both_ways, and_from, cond-true, cond-false}
 use Rattle.refusals.specs.declared.fault.Fault.{Fault}
+use Rattle.refusals.specs.Faults.{Ending}
 use Rattle.refusals.specs.declared.fault.Side.{Side}
 use Rattle.refusals.specs.declared.fault.Side.TheVariants.{Left, Right}
 use Rattle.receipts.specs.Histories.{Entry}
@@ -41,7 +42,7 @@ module _ (s : Setup) (p : Places) where
   ran_over srcs (suc n) x over = cond-true _ _ _ over
 
   module _ (t : Setup) (same : t ≡ s) (p' : Places) (room : p' ≡ p) (srcs others : Both Stream) (ends : tails srcs ≡ tails others)
-      (x x' : RunState) (o : Option Fault)
+      (x x' : RunState) (o : Ending)
       (value : (go : RunState → Report) → continued (turned x' o) go ≡ continued (turn t p' (shallows srcs) x) go)
       (unended : (x.over.left && x.over.right) ≡ false) (m : ℕ) where
     ran_turned : (n : ℕ) → m ≡ suc n → ran s p (shallows others) m x ≡ continued (turned x' o) (λ y. ran s p (shallows others) n y)
@@ -53,11 +54,11 @@ module _ (s : Setup) (p : Places) where
         ∙ ap (λ u. continued u (λ y. ran s p (shallows others) n y)) (turn_same srcs others ends x))
 
     -- the run goes on from the state that a turn without fault leaves
-    pub goes_further : (n : ℕ) → n + 1 ≡ m → o ≡ None → ran s p (shallows others) n x' ≡ ran s p (shallows others) m x
+    pub goes_further : (n : ℕ) → n + 1 ≡ m → o ≡ Ok tt → ran s p (shallows others) n x' ≡ ran s p (shallows others) m x
     goes_further n one fine =
         sym (ran_turned n (omega (arith, one)) ∙ ap (λ z. continued (turned x' z) (λ y. ran s p (shallows others) n y)) fine)
 
     -- a fault is where it stops
-    pub stops_there : (f : Fault) → o ≡ Some f → 0 < m → report x' (Err f) ≡ ran s p (shallows others) m x
+    pub stops_there : (f : Fault) → o ≡ Err f → 0 < m → report x' (Err f) ≡ ran s p (shallows others) m x
     stops_there f met some =
         sym (ran_turned (m - 1) (omega (arith, some)) ∙ ap (λ z. continued (turned x' z) (λ y. ran s p (shallows others) (m - 1) y)) met)

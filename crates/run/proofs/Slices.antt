@@ -3,7 +3,10 @@ use Rattle.std.proofs.Common.{◌≡◌, ℕ, ◌+◌, ◌-◌, ◌≤◌, List,
 use borrow.Rule.Slice.PartMut.{put_mid}
 use Rattle.std.proofs.lemmas.List.{drop-drop, drop_at, take_at, length-take-le}
 use Rattle.std.proofs.lemmas.Slice.{overwrites}
-use Rattle.run.specs.Closings.{Later}
+use Rattle.receipts.specs.declared.line.Line.{Line}
+use Rattle.receipts.specs.declared.window.Window.{Window}
+use Rattle.run.specs.declared.closing.Written.{Written}
+use Rattle.run.specs.Closings.{Later, Kept, Grows}
 
 module _ {X : Type 0} (a : ℕ) (xs ys : List X) (within : a ≤ length xs) where
   rest_written : put_mid a (length xs - a) xs ys ≡ take a xs ++ ys
@@ -31,3 +34,11 @@ later_then n m xs ys zs up long here there =
     let split : n + (m - n) ≡ m = omega (arith, up) in
     let further : drop (n + (m - n)) ys ≡ drop (n + (m - n)) xs = sym (drop-drop (m - n) n ys) ∙ ap (drop (m - n)) here.1 ∙ drop-drop (m - n) n xs in
     (omega (arith, there.0, long), there.1 ∙ subst (λ k. drop k ys ≡ drop k xs) split further)
+
+-- so with both slices
+pub kept_then : (v w : Written) (ls ls' ls'' : List Line) (ws ws' ws'' : List Window) → Grows v w → length ls' ≡ length ls → length ws' ≡ length ws →
+    Kept v ls ls' ws ws' → Kept w ls' ls'' ws' ws'' → Kept w ls ls'' ws ws''
+kept_then v w ls ls' ls'' ws ws' ws'' more lines windows here there = (
+  later_then v.lines w.lines ls ls' ls'' more.0 lines here.0 there.0,
+  later_then v.windows w.windows ws ws' ws'' more.1 windows here.1 there.1,
+)

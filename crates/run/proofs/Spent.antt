@@ -1,8 +1,7 @@
--- An event or an ending that is taken from a side takes one of the turns left.
-use Rattle.std.proofs.Common.{◌≡◌, ℕ, zero, suc, ◌+◌, Bool, true, false, List, [], length, sym, refl, ap, ◌∙◌, add-one, arith}
+-- An ending that is taken from a side takes one of the turns left.
+use Rattle.std.proofs.Common.{◌≡◌, ℕ, zero, suc, ◌+◌, Bool, true, false, List, [], sym, refl, ap, ◌∙◌, add-one}
 use Rattle.std.proofs.lemmas.Bool.{both_ways}
 use Rattle.refusals.specs.declared.fault.Side.{Side}
-use Rattle.refusals.specs.declared.fault.Side.TheVariants.{Left, Right}
 use Rattle.receipts.specs.Histories.{Entry}
 use Rattle.receipts.specs.Sides.{Both, pick, put}
 use Rattle.receipts.proofs.Sides.{put_same}
@@ -10,11 +9,6 @@ use Rattle.run_laws.proofs.TurnsLeft.{turns_left, ending_takes_one, none_left}
 use Rattle.sources.specs.Taking.{behind}
 
 module _ (rest : Both (List Entry)) (over : Both Bool) where
-  pub entry_spends : (side : Side) (es : List Entry) → pick side rest ≡ es → length (behind es) + 1 ≡ length es →
-      turns_left (put side (behind es) rest) over + 1 ≡ turns_left rest over
-  entry_spends Left es is one = omega (arith, ap length is, one)
-  entry_spends Right es is one = omega (arith, ap length is, one)
-
   pub ending_spends : (side : Side) (es : List Entry) → pick side rest ≡ es → es ≡ [] → pick side over ≡ false →
       turns_left (put side (behind es) rest) (put side true over) + 1 ≡ turns_left rest over
   ending_spends side es is none still =

@@ -1,12 +1,14 @@
 -- What closings write, and how a run goes on after them.
+--     Fits w ls ws                    the places that are written, as w tells, are there in the slices ls and ws
 --     Later n old new                 n places are there, and those behind them keep their content
+--     Kept w ls ls' ws ws'            so it is with both slices, behind what w tells
 --     closing_told_from n r places    the answer r of a closing that wrote its lines from the place n on
---     written_by w r                  what is written after a closing, where w was before
 --     Grows v w                       what was written stays: no fewer lines and records in w than in v
---     Counts w r                      a closing wrote one window record, or was refused
---     closed_turn s p blame at w r    the turn after one closing: it closes on, or stops
---     all_closed_turn blame x o       the turn after the last closing: it goes on, or stops for the refusal o
-use Rattle.std.specs.Prelude.{◌≡◌, ℕ, ◌+◌, ◌-◌, ◌≤◌, List, length, take, drop, Some, None, Ok, Err, Option, Result}
+--     Counts v w r                    a closing wrote one window record, or was refused
+--     closed_turn s p blame n x r     the turn after one closing that left the state x, with places for n more window records: it
+--                                     closes on, or stops for the refusal
+--     all_closed_turn blame x r       the turn after the last closing: it goes on, or stops for the refusal
+use Rattle.std.specs.Prelude.{◌≡◌, ℕ, ◌+◌, ◌≤◌, List, length, take, drop, Ok, Err, Result}
 use Rattle.refusals.specs.declared.fault.Fault.{Fault}
 use Rattle.refusals.specs.declared.refusal.Refusal.{Refusal}
 use Rattle.receipts.specs.declared.line.Line.{Line}
@@ -15,28 +17,30 @@ use Rattle.receipts.specs.Queries.{Setup, Answer, closed, refused}
 use Rattle.run_laws.specs.Runs.{Places, RunState, Turn, goes_on, stops, closings}
 use Rattle.run.specs.declared.closing.Written.{Written}
 
+abbrev pub Fits : Written → List Line → List Window → Type 0
+Fits w ls ws = (w.lines ≤ length ls) × (w.windows ≤ length ws)
+
 abbrev pub Later : {X : Type 0} → ℕ → List X → List X → Type 0
 Later n old new = (n ≤ length old) × (drop n new ≡ drop n old)
+
+abbrev pub Kept : Written → List Line → List Line → List Window → List Window → Type 0
+Kept w ls ls' ws ws' = Later w.lines ls ls' × Later w.windows ws ws'
 
 abbrev pub closing_told_from : ℕ → Result Window Fault → List Line → Answer
 closing_told_from from (Ok w) places = closed w (take w.lines (drop from places))
 closing_told_from from (Err f) places = refused f
 
-abbrev pub written_by : Written → Result Written Refusal → Written
-written_by w (Ok v) = v
-written_by w (Err why) = w
-
 abbrev pub Grows : Written → Written → Type 0
 Grows v w = (v.lines ≤ w.lines) × (v.windows ≤ w.windows)
 
-abbrev pub Counts : Written → Result Written Refusal → Type 0
-Counts w (Ok v) = Grows w v × (v.windows ≡ w.windows + 1)
-Counts w (Err why) = Unit {0}
+abbrev pub Counts : Written → Written → Result (Unit {0}) Refusal → Type 0
+Counts v w (Ok x) = w.windows ≡ v.windows + 1
+Counts v w (Err why) = Unit {0}
 
-abbrev pub closed_turn : Setup → Places → (Refusal → Fault) → (Written → RunState) → Written → Result Written Refusal → Turn
-closed_turn s p blame at w (Ok v) = closings s p blame (p.windows - v.windows) (at v)
-closed_turn s p blame at w (Err why) = stops (at w) (blame why)
+abbrev pub closed_turn : Setup → Places → (Refusal → Fault) → ℕ → RunState → Result (Unit {0}) Refusal → Turn
+closed_turn s p blame n x (Ok u) = closings s p blame n x
+closed_turn s p blame n x (Err why) = stops x (blame why)
 
-abbrev pub all_closed_turn : (Refusal → Fault) → RunState → Option Refusal → Turn
-all_closed_turn blame x None = goes_on x
-all_closed_turn blame x (Some why) = stops x (blame why)
+abbrev pub all_closed_turn : (Refusal → Fault) → RunState → Result (Unit {0}) Refusal → Turn
+all_closed_turn blame x (Ok u) = goes_on x
+all_closed_turn blame x (Err why) = stops x (blame why)

@@ -5,7 +5,7 @@
 --     lawful_width n                  a width is from 1 to 604,800
 --     refused_report f                nothing was done but to tell the fault f
 --     run_or_refused s p srcs         the report of a run over two streams, BadWidth where the width is not lawful
-use Rattle.std.specs.Prelude.{ℕ, Bool, false, cond, ◌&&◌, List, [], length, take, nat_le, Err}
+use Rattle.std.specs.Prelude.{ℕ, Bool, cond, ◌&&◌, List, [], length, take, nat_le, Err}
 use Rattle.refusals.specs.declared.fault.Fault.{Fault}
 use Rattle.refusals.specs.declared.refusal.Refusal.TheVariants.{BadWidth}
 use Rattle.refusals.specs.Faults.{bare_fault, Ending}
@@ -15,10 +15,9 @@ use Rattle.receipts.specs.Queries.{Setup, QueryState}
 use Rattle.receipts.specs.Sides.{Both, twice}
 use Rattle.rewriting.specs.Streams.{Stream}
 use Rattle.joining.specs.Guards.{both}
-use Rattle.run_laws.specs.Runs.{Places, RunState, Report, run}
+use Rattle.run_laws.specs.Runs.{Places, Report, run}
 use Rattle.run.specs.declared.closing.Written.{Written}
 use Rattle.run.specs.declared.report.RunReport.{RunReport}
-use Rattle.run.specs.Turns.{entries_of}
 
 abbrev pub reported : RunReport → List Line → List Window → Report
 reported r ls ws = record {
@@ -38,10 +37,6 @@ report_of q w e = record {
   held_right = length q.halves.right.held;
   ending = e;
 }
-
--- with the query q at first
-abbrev pub begun : QueryState → Both Stream → RunState
-begun q srcs = record { query = q; rest = entries_of srcs; over = twice false; lines = []; windows = [] }
 
 abbrev pub lawful_width : ℕ → Bool
 lawful_width n = nat_le 1 n && nat_le n 604800

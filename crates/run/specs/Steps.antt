@@ -1,19 +1,24 @@
 -- A side's turn: an event, or the ending, taken from its source and handed to the query.
 --     shallow src                     the stream src, with a depth of at most 65,535
 --     is_cti e                        the event e is a CTI
---     ending_step side w              what comes of the ending w on a side
+--     PlainNext                       what a side is to hear: the first event with its source's depth and its number, or the ending
+--     next_as pair r                  what the answer r of taking gives it
+--     next_on side src                what the stream src gives it; a fault is told on the side
+--     ending_step w                   what comes of the ending w
 --     answer_step depth n c a         what comes of the query's answer a to the n-th event of a source, a CTI where c is true
 --     Fed, fed r q                    what came of the turn, and the query that it leaves
 --     stepped s q side src            what comes of a turn of a side whose source is src
-use Rattle.std.specs.Prelude.{ℕ, min, Bool, true, false, cond, Ok, Err, Result}
+use Rattle.std.specs.Prelude.{ℕ, min, Bool, true, false, cond, Some, None, Option, Ok, Err, Result}
 use Rattle.refusals.specs.declared.fault.Fault.{Fault}
 use Rattle.refusals.specs.declared.fault.Side.{Side}
 use Rattle.refusals.specs.Faults.{on_side, Ending}
-use Rattle.rows.specs.Events.{PlainEvent, insert, retraction, cti}
+use Rattle.rows.specs.Events.{PlainEvent, plain_event, insert, retraction, cti}
+use Rattle.rows.specs.Kinds.{Pair}
 use Rattle.receipts.specs.Queries.{Setup, QueryState, event, Answer, accepted, closed, told, refused, Called, called}
 use Rattle.rewriting.specs.Streams.{Stream}
 use Rattle.run_laws.specs.Runs.{located}
 use Rattle.sources.specs.Taking.{PlainTaken, next, ended, next_in}
+use Rattle.run.specs.declared.feeding.Next.{Next}
 use Rattle.run.specs.declared.feeding.Step.{Step}
 use Rattle.run.specs.declared.feeding.Step.TheVariants as step
 
@@ -25,9 +30,29 @@ is_cti (insert r) = false
 is_cti (retraction r e) = false
 is_cti (cti t) = true
 
-abbrev pub ending_step : Side → Ending → Result Step Fault
-ending_step side (Ok tt) = Ok step.Ended
-ending_step side (Err f) = Err (on_side side f)
+pub data PlainNext : Type 0 where
+  at : ℕ → ℕ → PlainEvent → PlainNext
+  over : Ending → PlainNext
+
+abbrev pub next_as : {P : Type 0} → (P → Pair) → Result (Option (Next P)) Fault → PlainNext
+next_as pair (Ok (Some x)) = at x.depth x.number (plain_event pair x.event)
+next_as pair (Ok None) = over (Ok tt)
+next_as pair (Err f) = over (Err f)
+
+abbrev pub told_on : Side → Ending → Ending
+told_on side (Ok u) = Ok u
+told_on side (Err f) = Err (on_side side f)
+
+abbrev pub next_by : Side → ℕ → PlainTaken → PlainNext
+next_by side depth (next n e) = at depth n e
+next_by side depth (ended w) = over (told_on side w)
+
+abbrev pub next_on : Side → Stream → PlainNext
+next_on side src = next_by side src.depth (next_in src)
+
+abbrev pub ending_step : Ending → Result Step Fault
+ending_step (Ok u) = Ok step.Ended
+ending_step (Err f) = Err f
 
 -- the query answers an event by accepting or refusing it, and in no other way
 abbrev pub answer_step : ℕ → ℕ → Bool → Answer → Result Step Fault
@@ -46,9 +71,9 @@ fed r q = record { step = r; query = q }
 abbrev pub answered : ℕ → ℕ → PlainEvent → Called → Fed
 answered depth n e o = fed (answer_step depth n (is_cti e) o.answer) o.after
 
-abbrev pub stepped_by : Setup → QueryState → Side → ℕ → PlainTaken → Fed
-stepped_by s q side depth (next n e) = answered depth n e (called s q (event side e))
-stepped_by s q side depth (ended w) = fed (ending_step side w) q
+abbrev pub stepped_by : Setup → QueryState → Side → PlainNext → Fed
+stepped_by s q side (at depth n e) = answered depth n e (called s q (event side e))
+stepped_by s q side (over w) = fed (ending_step w) q
 
 abbrev pub stepped : Setup → QueryState → Side → Stream → Fed
-stepped s q side src = stepped_by s q side src.depth (next_in src)
+stepped s q side src = stepped_by s q side (next_on side src)

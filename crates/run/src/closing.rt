@@ -1,5 +1,5 @@
 // The closings that follow an accepted CTI: each writes its lines and its window record on after the one before.
-ghost use Rattle.std.specs.Prelude.{◌≡◌, ℕ, ◌+◌, ◌-◌, ◌≤◌, Bool, true, List, length, take, drop};
+ghost use Rattle.std.specs.Prelude.{◌≡◌, ◌+◌, ◌-◌, ◌≤◌, Bool, true, List, length, take, drop};
 ghost use Rattle.refusals.specs.declared.fault.Fault.{Fault};
 ghost use Rattle.refusals.specs.declared.refusal.Refusal.{Refusal};
 ghost use Rattle.receipts.specs.Histories.{Entry};
@@ -9,7 +9,7 @@ ghost use Rattle.query.specs.Answers.{answers, lines_told};
 ghost use Rattle.query.specs.Queries.{setup, state};
 ghost use Rattle.run_laws.specs.Runs.{closings};
 ghost use Rattle.run.specs.States.{places, standing};
-ghost use Rattle.run.specs.Closings.{Later, Grows, closing_told_from, written_by, Counts, closed_turn, all_closed_turn};
+ghost use Rattle.run.specs.Closings.{Fits, Kept, Grows, closing_told_from, Counts, closed_turn, all_closed_turn};
 
 use query::engine::Query;
 use receipts::line::Line;
@@ -26,13 +26,6 @@ pub struct Written {
     pub windows: usize,
 }
 
-// What is written after closings, and what the next one was refused for, if any.
-#[derive(Clone, Copy)]
-pub struct Closed {
-    pub written: Written,
-    pub refusal: Option<Refusal>,
-}
-
 // Closes the next window, and writes its lines from a place on.
 fn close_from<L: Payload, R: Payload, S: Store, T: Store>(
     query: &mut Query<L, R, S, T>,
@@ -40,13 +33,11 @@ fn close_from<L: Payload, R: Payload, S: Store, T: Store>(
     from: usize,
 ) -> Result<Window, Fault>
     requires { from ≤ length lines.old }
-    ensures call { answers (closing_told_from from result lines.new) (state S.Store.rows T.Store.rows query.new)
-        ≡ called (setup L.Payload.kind R.Payload.kind S.Store.capacity T.Store.capacity query.old)
-        (state S.Store.rows T.Store.rows query.old) (closing (length lines.old - from)) }
+    ensures call { answers (closing_told_from from result lines.new) (state query.new)
+        ≡ called (setup query.old) (state query.old) (closing (length lines.old - from)) }
     ensures earlier { take from lines.new ≡ take from lines.old }
     ensures later { drop (from + lines_told result) lines.new ≡ drop (from + lines_told result) lines.old }
-    ensures same { setup L.Payload.kind R.Payload.kind S.Store.capacity T.Store.capacity query.new
-        ≡ setup L.Payload.kind R.Payload.kind S.Store.capacity T.Store.capacity query.old }
+    ensures same { setup query.new ≡ setup query.old }
 {
     query.close(&mut lines[from..])
 }
@@ -55,75 +46,50 @@ fn close_from<L: Payload, R: Payload, S: Store, T: Store>(
 // there are too few for the lines. A refused closing writes nothing.
 fn close_once<L: Payload, R: Payload, S: Store, T: Store>(
     query: &mut Query<L, R, S, T>,
+    written: &mut Written,
     lines: &mut [Line],
     windows: &mut [Window],
-    written: Written,
-) -> Result<Written, Refusal>
-    requires due { may_close (setup L.Payload.kind R.Payload.kind S.Store.capacity T.Store.capacity query.old)
-        (state S.Store.rows T.Store.rows query.old) ≡ true }
-    requires lines { written.lines ≤ length lines.old }
-    requires windows { written.windows ≤ length windows.old }
+) -> Result<(), Refusal>
+    requires due { may_close (setup query.old) (state query.old) ≡ true }
+    requires fits { Fits written.old lines.old windows.old }
     ensures value { (rest : Both (List Entry)) (over : Both Bool) (blame : Refusal → Fault) →
-        closed_turn (setup L.Payload.kind R.Payload.kind S.Store.capacity T.Store.capacity query.old)
-        (places lines.old windows.old) blame
-        (standing (state S.Store.rows T.Store.rows query.new) rest over lines.new windows.new) written result
-        ≡ closings (setup L.Payload.kind R.Payload.kind S.Store.capacity T.Store.capacity query.old)
-        (places lines.old windows.old) blame (length windows.old - written.windows)
-        (standing (state S.Store.rows T.Store.rows query.old) rest over lines.old windows.old written) }
-    ensures count { Counts written result }
-    ensures lines { Later (written_by written result).lines lines.old lines.new }
-    ensures windows { Later (written_by written result).windows windows.old windows.new }
-    ensures same { setup L.Payload.kind R.Payload.kind S.Store.capacity T.Store.capacity query.new
-        ≡ setup L.Payload.kind R.Payload.kind S.Store.capacity T.Store.capacity query.old }
+        closed_turn (setup query.old) (places lines.old windows.old) blame (length windows.old - written.new.windows)
+        (standing (state query.new) rest over lines.new windows.new written.new) result
+        ≡ closings (setup query.old) (places lines.old windows.old) blame (length windows.old - written.old.windows)
+        (standing (state query.old) rest over lines.old windows.old written.old) }
+    ensures count { Counts written.old written.new result }
+    ensures more { Grows written.old written.new }
+    ensures kept { Kept written.new lines.old lines.new windows.old windows.new }
+    ensures same { setup query.new ≡ setup query.old }
 {
     if windows.len() <= written.windows {
         return Err(Refusal::WindowsFull);
     }
-    match close_from(query, lines, written.lines) {
-        Err(fault) => Err(fault.refusal),
-        Ok(window) => {
-            windows[written.windows] = window;
-            Ok(Written {
-                lines: written.lines + window.lines,
-                windows: written.windows + 1,
-            })
-        }
-    }
+    let window = close_from(query, lines, written.lines).map_err(|fault| fault.refusal)?;
+    windows[written.windows] = window;
+    written.lines += window.lines;
+    written.windows += 1;
+    Ok(())
 }
 
 // Closes until closing is not allowed, or a closing is refused.
 pub fn close_all<L: Payload, R: Payload, S: Store, T: Store>(
     query: &mut Query<L, R, S, T>,
+    written: &mut Written,
     lines: &mut [Line],
     windows: &mut [Window],
-    from: Written,
-) -> Closed
-    requires lines { from.lines ≤ length lines.old }
-    requires windows { from.windows ≤ length windows.old }
+) -> Result<(), Refusal>
+    requires { Fits written.old lines.old windows.old }
     ensures value { (rest : Both (List Entry)) (over : Both Bool) (blame : Refusal → Fault) →
-        all_closed_turn blame
-        (standing (state S.Store.rows T.Store.rows query.new) rest over lines.new windows.new result.written) result.refusal
-        ≡ closings (setup L.Payload.kind R.Payload.kind S.Store.capacity T.Store.capacity query.old)
-        (places lines.old windows.old) blame (length windows.old - from.windows)
-        (standing (state S.Store.rows T.Store.rows query.old) rest over lines.old windows.old from) }
-    ensures lines { Later result.written.lines lines.old lines.new }
-    ensures windows { Later result.written.windows windows.old windows.new }
-    ensures more { Grows from result.written }
-    ensures same { setup L.Payload.kind R.Payload.kind S.Store.capacity T.Store.capacity query.new
-        ≡ setup L.Payload.kind R.Payload.kind S.Store.capacity T.Store.capacity query.old }
+        all_closed_turn blame (standing (state query.new) rest over lines.new windows.new written.new) result
+        ≡ closings (setup query.old) (places lines.old windows.old) blame (length windows.old - written.old.windows)
+        (standing (state query.old) rest over lines.old windows.old written.old) }
+    ensures more { Grows written.old written.new }
+    ensures kept { Kept written.new lines.old lines.new windows.old windows.new }
+    ensures same { setup query.new ≡ setup query.old }
 {
-    let mut written = from;
     while query.may_close() {
-        match close_once(query, lines, windows, written) {
-            Ok(next) => written = next,
-            Err(why) => return Closed {
-                written,
-                refusal: Some(why),
-            },
-        }
+        close_once(query, written, lines, windows)?;
     }
-    Closed {
-        written,
-        refusal: None,
-    }
+    Ok(())
 }

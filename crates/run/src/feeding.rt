@@ -1,14 +1,13 @@
 // Feeding the query from a source: one event, or the source's ending.
 ghost use Rattle.std.specs.Prelude.{◌≡◌};
-ghost use Rattle.refusals.specs.declared.fault.Side.TheVariants.{Left, Right};
 ghost use Rattle.rows.specs.Events.{plain_event};
-ghost use Rattle.query.specs.Answers.{event_told};
 ghost use Rattle.query.specs.Queries.{setup, state};
 ghost use Rattle.joining.specs.Guards.{both};
 ghost use Rattle.run_laws.specs.Runs.{run_fault, located};
 ghost use Rattle.sources.specs.Taking.{rest_of};
 ghost use Rattle.receipts.specs.Sides.{pick, put};
-ghost use Rattle.run.specs.Steps.{shallow, is_cti, answer_step, fed, stepped};
+ghost use Rattle.query.specs.Answers.{event_told};
+ghost use Rattle.run.specs.Steps.{shallow, next_as, next_on, is_cti, answer_step, fed, stepped};
 
 use query::engine::Query;
 use refusals::fault::{Fault, Side};
@@ -37,16 +36,6 @@ fn depth_of<A: Source>(source: &A) -> u16
     source.depth().min(DEEPEST) as u16
 }
 
-fn is_cti<P: Payload>(event: &Event<P>) -> bool
-    ensures { result ≡ is_cti (plain_event P.Payload.pair event.now) }
-{
-    match *event {
-        Event::Insert(_) => false,
-        Event::Retraction { .. } => false,
-        Event::Cti(_) => true,
-    }
-}
-
 // The fault of a closing that was refused, at the event just taken.
 pub fn run_fault(side: Side, depth: u16, number: u64, why: Refusal) -> Fault
     ensures { result ≡ run_fault side depth number why }
@@ -58,76 +47,49 @@ fn locate(depth: u16, number: u64, fault: Fault) -> Fault
     ensures { result ≡ located depth number fault }
 {
     Fault {
-        refusal: fault.refusal,
-        side: fault.side,
         depth: Some(u32::from(depth) + 1),
         event: Some(number),
-        cti: fault.cti,
+        ..fault
     }
 }
 
-// After the query's answer to an event.
-fn answered(depth: u16, number: u64, cti: bool, answer: Result<(), Fault>) -> Result<Step, Fault>
-    ensures { result ≡ answer_step depth number cti (event_told answer) }
-{
-    match answer {
-        Err(fault) => Err(locate(depth, number, fault)),
-        Ok(()) => Ok(if cti {
-            Step::Advanced { depth, number }
-        } else {
-            Step::Accepted
-        }),
-    }
+// The next event of a source, with the source's depth and the event's number.
+#[derive(Clone, Copy)]
+struct Next<P> {
+    depth: u16,
+    number: u64,
+    event: Event<P>,
 }
 
-// A turn of the left side.
-fn feed_left<L: Payload, R: Payload, S: Store, T: Store, A: Source<Payload = L>>(
-    query: &mut Query<L, R, S, T>,
-    source: &mut A,
-) -> Result<Step, Fault>
-    ensures value { fed result (state S.Store.rows T.Store.rows query.new)
-        ≡ stepped (setup L.Payload.kind R.Payload.kind S.Store.capacity T.Store.capacity query.old)
-        (state S.Store.rows T.Store.rows query.old) Left (shallow (A.Source.stream source.old)) }
+// Takes the next event of a side's source. A fault is told on the side.
+fn next_of<A: Source>(source: &mut A, side: Side) -> Result<Option<Next<A::Payload>>, Fault>
+    ensures value { next_as A.Payload.Payload.pair result ≡ next_on side (shallow (A.Source.stream source.old)) }
     ensures after { A.Source.stream source.new ≡ rest_of (A.Source.stream source.old) }
-    ensures same { setup L.Payload.kind R.Payload.kind S.Store.capacity T.Store.capacity query.new
-        ≡ setup L.Payload.kind R.Payload.kind S.Store.capacity T.Store.capacity query.old }
 {
     let depth = depth_of(source);
-    match source.take() {
-        Ok(None) => Ok(Step::Ended),
-        Ok(Some(Numbered { number, event })) => answered(
-            depth,
-            number,
-            is_cti(&event),
-            query.left_event(event),
-        ),
-        Err(fault) => Err(fault.on_side(Side::Left)),
-    }
+    let taken = source.take().map_err(|fault| fault.on_side(side))?;
+    Ok(taken.map(|Numbered { number, event }| Next {
+        depth,
+        number,
+        event,
+    }))
 }
 
-// A turn of the right side.
-fn feed_right<L: Payload, R: Payload, S: Store, T: Store, B: Source<Payload = R>>(
-    query: &mut Query<L, R, S, T>,
-    source: &mut B,
-) -> Result<Step, Fault>
-    ensures value { fed result (state S.Store.rows T.Store.rows query.new)
-        ≡ stepped (setup L.Payload.kind R.Payload.kind S.Store.capacity T.Store.capacity query.old)
-        (state S.Store.rows T.Store.rows query.old) Right (shallow (B.Source.stream source.old)) }
-    ensures after { B.Source.stream source.new ≡ rest_of (B.Source.stream source.old) }
-    ensures same { setup L.Payload.kind R.Payload.kind S.Store.capacity T.Store.capacity query.new
-        ≡ setup L.Payload.kind R.Payload.kind S.Store.capacity T.Store.capacity query.old }
+// What comes of the query's answer to an event.
+fn answered<P: Payload>(next: Next<P>, answer: Result<(), Fault>) -> Result<Step, Fault>
+    ensures { result ≡ answer_step next.depth next.number (is_cti (plain_event P.Payload.pair next.event)) (event_told answer) }
 {
-    let depth = depth_of(source);
-    match source.take() {
-        Ok(None) => Ok(Step::Ended),
-        Ok(Some(Numbered { number, event })) => answered(
-            depth,
-            number,
-            is_cti(&event),
-            query.right_event(event),
-        ),
-        Err(fault) => Err(fault.on_side(Side::Right)),
-    }
+    let Next {
+        depth,
+        number,
+        event,
+    } = next;
+    answer.map_err(|fault| locate(depth, number, fault))?;
+    Ok(if matches!(event, Event::Cti(_)) {
+        Step::Advanced { depth, number }
+    } else {
+        Step::Accepted
+    })
 }
 
 // A turn of a side: feeds the query from its source, and leaves the other source as it is.
@@ -139,18 +101,22 @@ pub fn feed<
     A: Source<Payload = L>,
     B: Source<Payload = R>,
 >(query: &mut Query<L, R, S, T>, left: &mut A, right: &mut B, side: Side) -> Result<Step, Fault>
-    ensures value { fed result (state S.Store.rows T.Store.rows query.new)
-        ≡ stepped (setup L.Payload.kind R.Payload.kind S.Store.capacity T.Store.capacity query.old)
-        (state S.Store.rows T.Store.rows query.old) side
+    ensures value { fed result (state query.new)
+        ≡ stepped (setup query.old) (state query.old) side
         (pick side (both (shallow (A.Source.stream left.old)) (shallow (B.Source.stream right.old)))) }
     ensures after { both (A.Source.stream left.new) (B.Source.stream right.new)
         ≡ put side (rest_of (pick side (both (A.Source.stream left.old) (B.Source.stream right.old))))
         (both (A.Source.stream left.old) (B.Source.stream right.old)) }
-    ensures same { setup L.Payload.kind R.Payload.kind S.Store.capacity T.Store.capacity query.new
-        ≡ setup L.Payload.kind R.Payload.kind S.Store.capacity T.Store.capacity query.old }
+    ensures same { setup query.new ≡ setup query.old }
 {
     match side {
-        Side::Left => feed_left(query, left),
-        Side::Right => feed_right(query, right),
+        Side::Left => match next_of(left, side)? {
+            None => Ok(Step::Ended),
+            Some(next) => answered(next, query.left_event(next.event)),
+        },
+        Side::Right => match next_of(right, side)? {
+            None => Ok(Step::Ended),
+            Some(next) => answered(next, query.right_event(next.event)),
+        },
     }
 }

@@ -2,16 +2,17 @@
 ghost use Rattle.std.specs.Prelude.{◌≡◌, true, ◌&&◌};
 ghost use Rattle.joining.specs.Guards.{both};
 ghost use Rattle.query.specs.Queries.{setting, setup, state};
-ghost use Rattle.run_laws.specs.Runs.{ran, turns};
-ghost use Rattle.run.specs.Closings.{Later};
+ghost use Rattle.run_laws.specs.Runs.{report, ran};
+ghost use Rattle.run_laws.proofs.TurnsLeft.{turns_left};
+ghost use Rattle.run.specs.Closings.{Later, Fits, Kept};
 ghost use Rattle.run.specs.States.{places};
-ghost use Rattle.run.specs.Turns.{shallows};
-ghost use Rattle.run.specs.Reports.{reported, report_of, begun, lawful_width, run_or_refused};
+ghost use Rattle.run.specs.Turns.{sides, entries_of, stands, shallows};
+ghost use Rattle.run.specs.Reports.{reported, report_of, lawful_width, run_or_refused};
 ghost use Rattle.run.specs.Promise.{Promise};
 
 use crate::closing::Written;
 use crate::report::RunReport;
-use crate::turning::{Over, Progress, take_turn};
+use crate::turning::{Over, Run};
 use query::engine::Query;
 use receipts::line::Line;
 use receipts::window::Window;
@@ -20,73 +21,42 @@ use rows::payload::Payload;
 use sources::source::Source;
 use stores::store::Store;
 
-fn all_over(over: Over) -> bool
-    ensures { result ≡ (over.left && over.right) }
-{
-    over.left && over.right
-}
-
-// The report of a run that ends with this query, and so much written.
-fn report<L: Payload, R: Payload, S: Store, T: Store>(
-    query: &Query<L, R, S, T>,
-    written: Written,
-    ending: Result<(), Fault>,
-) -> RunReport
-    ensures { result ≡ report_of (state S.Store.rows T.Store.rows query.now) written ending }
-{
-    RunReport {
-        lines: written.lines,
-        windows: written.windows,
-        closed: query.closed_time(),
-        held_left: query.held(Side::Left),
-        held_right: query.held(Side::Right),
-        ending,
+impl<L: Payload, R: Payload, S: Store, T: Store> Run<L, R, S, T> {
+    // Turn after turn, until both sources have ended or a fault is met.
+    fn go<A: Source<Payload = L>, B: Source<Payload = R>>(
+        &mut self,
+        left: &mut A,
+        right: &mut B,
+        lines: &mut [Line],
+        windows: &mut [Window],
+    ) -> Result<(), Fault>
+        requires { Fits self.old.written lines.old windows.old }
+        ensures value { report (stands self.new (both (A.Source.stream left.new) (B.Source.stream right.new)) lines.new windows.new) result
+            ≡ ran (setup self.old.query) (places lines.old windows.old)
+            (shallows (both (A.Source.stream left.old) (B.Source.stream right.old)))
+            (turns_left (entries_of (both (A.Source.stream left.old) (B.Source.stream right.old))) (sides self.old.over))
+            (stands self.old (both (A.Source.stream left.old) (B.Source.stream right.old)) lines.old windows.old) }
+        ensures kept { Kept self.new.written lines.old lines.new windows.old windows.new }
+    {
+        while !self.over.both() {
+            self.take_turn(left, right, lines, windows)?;
+        }
+        Ok(())
     }
-}
 
-// Turn after turn, until both sources have ended or a fault is met.
-fn run_query<
-    L: Payload,
-    R: Payload,
-    S: Store,
-    T: Store,
-    A: Source<Payload = L>,
-    B: Source<Payload = R>,
->(
-    query: &mut Query<L, R, S, T>,
-    left: &mut A,
-    right: &mut B,
-    lines: &mut [Line],
-    windows: &mut [Window],
-) -> RunReport
-    ensures value { reported result lines.new windows.new
-        ≡ ran (setup L.Payload.kind R.Payload.kind S.Store.capacity T.Store.capacity query.old)
-        (places lines.old windows.old)
-        (shallows (both (A.Source.stream left.old) (B.Source.stream right.old)))
-        (turns (shallows (both (A.Source.stream left.old) (B.Source.stream right.old))))
-        (begun (state S.Store.rows T.Store.rows query.old)
-        (both (A.Source.stream left.old) (B.Source.stream right.old))) }
-    ensures lines { Later result.lines lines.old lines.new }
-    ensures windows { Later result.windows windows.old windows.new }
-{
-    let mut progress = Progress {
-        over: Over {
-            left: false,
-            right: false,
-        },
-        written: Written {
-            lines: 0,
-            windows: 0,
-        },
-    };
-    while !all_over(progress.over) {
-        let turned = take_turn(query, left, right, lines, windows, progress);
-        progress = turned.progress;
-        if let Some(fault) = turned.fault {
-            return report(query, progress.written, Err(fault));
+    // The report of a run that ends here.
+    fn report(&self, ending: Result<(), Fault>) -> RunReport
+        ensures { result ≡ report_of (state self.now.query) self.now.written ending }
+    {
+        RunReport {
+            lines: self.written.lines,
+            windows: self.written.windows,
+            closed: self.query.closed_time(),
+            held_left: self.query.held(Side::Left),
+            held_right: self.query.held(Side::Right),
+            ending,
         }
     }
-    report(query, progress.written, Ok(()))
 }
 
 // A run with windows of a width over two sources, which writes its lines and its window records over the first places. It
@@ -120,6 +90,20 @@ pub fn run<
             held_right: 0,
             ending: Err(fault),
         },
-        Ok(mut query) => run_query(&mut query, left, right, lines, windows),
+        Ok(query) => {
+            let mut run = Run {
+                query,
+                over: Over {
+                    left: false,
+                    right: false,
+                },
+                written: Written {
+                    lines: 0,
+                    windows: 0,
+                },
+            };
+            let ending = run.go(left, right, lines, windows);
+            run.report(ending)
+        }
     }
 }

@@ -6,23 +6,21 @@ use Rattle.receipts.specs.Sides.{Both}
 use Rattle.query.specs.Queries.{setup, state}
 use Rattle.run_laws.specs.Runs.{closings}
 use Rattle.run.specs.States.{places, standing}
-use Rattle.run.specs.Closings.{Later, Grows}
+use Rattle.run.specs.Closings.{Kept, Grows}
 use Rattle.run.proofs.closing.close_all.Given as goal
 
 -- The closings from here on come to what all of them come to.
 abbrev pub invariant-loop-query : goal.invariant-loop-query
 invariant-loop-query g l =
-    let s = setup g.L.Payload.kind g.R.Payload.kind g.S.Store.capacity g.T.Store.capacity l.initial.query in
+    let s = setup l.initial.query in
     let p = places l.initial.lines l.initial.windows in
-    (setup g.L.Payload.kind g.R.Payload.kind g.S.Store.capacity g.T.Store.capacity l.query ≡ s)
-    × Later l.written.lines l.initial.lines l.lines
-    × Later l.written.windows l.initial.windows l.windows
+    (setup l.query ≡ s)
+    × Kept l.written l.initial.lines l.lines l.initial.windows l.windows
     × Grows l.initial.written l.written
     × ((rest : Both (List Entry)) (over : Both Bool) (blame : Refusal → Fault) →
-    closings s p blame (length l.initial.windows - l.written.windows)
-    (standing (state g.S.Store.rows g.T.Store.rows l.query) rest over l.lines l.windows l.written)
+    closings s p blame (length l.initial.windows - l.written.windows) (standing (state l.query) rest over l.lines l.windows l.written)
     ≡ closings s p blame (length l.initial.windows - l.initial.written.windows)
-    (standing (state g.S.Store.rows g.T.Store.rows l.initial.query) rest over l.initial.lines l.initial.windows l.initial.written))
+    (standing (state l.initial.query) rest over l.initial.lines l.initial.windows l.initial.written))
 
 abbrev pub decreases-loop-query : goal.decreases-loop-query
 decreases-loop-query g l = length l.initial.windows - l.written.windows

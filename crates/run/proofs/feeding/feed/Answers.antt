@@ -1,38 +1,26 @@
-use Rattle.std.proofs.Common.{◌≡◌, sym, ap, subst}
-use Rattle.refusals.specs.declared.fault.Side.{Side}
-use Rattle.receipts.specs.Queries.{Setup, QueryState}
-use Rattle.receipts.specs.Sides.{Both, pick, put}
+use Rattle.refusals.specs.declared.fault.Side.TheVariants.{Left, Right}
+use Rattle.receipts.specs.Sides.{Both}
 use Rattle.rewriting.specs.Streams.{Stream}
+use Rattle.rows.specs.Events.{plain_event}
 use Rattle.joining.specs.Guards.{both}
+use Rattle.query.specs.Answers.{event_told}
 use Rattle.query.specs.Queries.{setup, state}
-use Rattle.sources.specs.Taking.{rest_of}
-use Rattle.run.specs.Steps.{Fed, shallow, fed, stepped}
+use Rattle.run.specs.Steps.{shallow}
+use Rattle.run.proofs.Feeds.{heard_step}
 use Rattle.run.proofs.feeding.feed.Goals as goal
 
-pub returns-in-Left : goal.returns-in-Left
-returns-in-Left g c =
-    let s : Setup = setup g.L.Payload.kind g.R.Payload.kind g.S.Store.capacity g.T.Store.capacity c.args.query.now in
-    let q : QueryState = state g.S.Store.rows g.T.Store.rows c.args.query.now in
-    let a : Stream = g.A.Source.stream c.args.left.now in
-    let b : Stream = g.B.Source.stream c.args.right.now in
-    let made : Fed = fed c.feed_left.result (state g.S.Store.rows g.T.Store.rows c.feed_left.new.query) in
-    let after : Both Stream = both (g.A.Source.stream c.feed_left.new.source) b in
-    record {
-      value = subst (λ (x : Side). made ≡ stepped s q x (pick x (both (shallow a) (shallow b)))) (sym c.in-Left.is) c.feed_left.ensures.value;
-      after = subst (λ (x : Side). after ≡ put x (rest_of (pick x (both a b))) (both a b)) (sym c.in-Left.is) (ap (λ src. both src b) c.feed_left.ensures.after);
-      same = c.feed_left.ensures.same;
-    }
+pub returns-in-Some-clause-value : goal.returns-in-Some-clause-value
+returns-in-Some-clause-value g c =
+    let x = c.in-Some.next in
+    let srcs : Both Stream = both (shallow (g.A.Source.stream c.args.left.now)) (shallow (g.B.Source.stream c.args.right.now)) in
+    heard_step (setup c.args.query.now) (state c.args.query.now) (state c.left_event.new.self) c.args.side Left c.in-Left.is srcs
+    x.depth x.number (plain_event g.L.Payload.pair x.event) (event_told c.left_event.result) c.answered.result
+    (rw c.in-Some.is at c.in_ok-next_of-in-Left.ensures.value) c.left_event.ensures.0 c.answered.ensures
 
-pub returns-in-Right : goal.returns-in-Right
-returns-in-Right g c =
-    let s : Setup = setup g.L.Payload.kind g.R.Payload.kind g.S.Store.capacity g.T.Store.capacity c.args.query.now in
-    let q : QueryState = state g.S.Store.rows g.T.Store.rows c.args.query.now in
-    let a : Stream = g.A.Source.stream c.args.left.now in
-    let b : Stream = g.B.Source.stream c.args.right.now in
-    let made : Fed = fed c.feed_right.result (state g.S.Store.rows g.T.Store.rows c.feed_right.new.query) in
-    let after : Both Stream = both a (g.B.Source.stream c.feed_right.new.source) in
-    record {
-      value = subst (λ (x : Side). made ≡ stepped s q x (pick x (both (shallow a) (shallow b)))) (sym c.in-Right.is) c.feed_right.ensures.value;
-      after = subst (λ (x : Side). after ≡ put x (rest_of (pick x (both a b))) (both a b)) (sym c.in-Right.is) (ap (λ src. both a src) c.feed_right.ensures.after);
-      same = c.feed_right.ensures.same;
-    }
+pub returns-in-Some-2-clause-value : goal.returns-in-Some-2-clause-value
+returns-in-Some-2-clause-value g c =
+    let x = c.in-Some-2.next in
+    let srcs : Both Stream = both (shallow (g.A.Source.stream c.args.left.now)) (shallow (g.B.Source.stream c.args.right.now)) in
+    heard_step (setup c.args.query.now) (state c.args.query.now) (state c.right_event.new.self) c.args.side Right c.in-Right.is srcs
+    x.depth x.number (plain_event g.R.Payload.pair x.event) (event_told c.right_event.result) c.answered-in-Some-2.result
+    (rw c.in-Some-2.is at c.in_ok-next_of-in-Right.ensures.value) c.right_event.ensures.0 c.answered-in-Some-2.ensures
