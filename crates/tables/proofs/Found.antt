@@ -31,6 +31,10 @@ cell_at (s ∷ slots) (suc i) = cell_at slots i
 pub read_at : (slots : List Slot) (i : ℕ) (d s : Slot) → i < length slots → get_or slots i d ≡ s → get_or slots i Empty ≡ s
 read_at slots i d s within e = get_or_default slots i Empty d within ∙ e
 
+-- the same where the slot's number was told otherwise
+pub read_here : (slots : List Slot) (k i : ℕ) (s : Slot) → k ≡ i → i < length slots → s ≡ get_or slots k s → get_or slots i Empty ≡ s
+read_here slots k i s same within e = read_at slots i s s within (ap (λ j. get_or slots j s) (sym same) ∙ sym e)
+
 pub read_cell : (slots : List Slot) (i : ℕ) (d s : Slot) → i < length slots → get_or slots i d ≡ s → get_or (map cell slots) i None ≡ cell s
 read_cell slots i d s within e = cell_at slots i ∙ ap cell (read_at slots i d s within e)
 

@@ -1,6 +1,8 @@
 -- A table's slots, and the search through them.
 --     cell s                      what the slot s holds
 --     is_deleted s                the slot s held a row that went
+--     Computes p R                what R answers of a slot is what p computes
+--     probed p id slots           the first slot in the search for an id that p holds of, or none
 --     look id s                   what a search for an id does at the slot s: stop, pass, or hit
 --     sought id slots             where the search for an id ends at its row, or none
 --     is_slot i o                 o is the slot i
@@ -21,6 +23,17 @@ abbrev pub is_deleted : Slot → Bool
 is_deleted Empty = false
 is_deleted Deleted = true
 is_deleted (Full r) = false
+
+abbrev pub Computes : (Slot → Bool) → (Slot → Bool → Type 0) → Type 0
+Computes p R = (s : Slot) (b : Bool) → R s b → b ≡ p s
+
+-- at most n slots are looked at
+abbrev pub probed_from : (Slot → Bool) → ℕ → ℕ → List Slot → Option ℕ
+probed_from p zero i slots = None
+probed_from p (suc n) i slots = cond (p (slice_index_or slots i Empty)) (Some i) (probed_from p n (next i) slots)
+
+unfoldable pub probed : (Slot → Bool) → ℕ → List Slot → Option ℕ
+probed p id slots = probed_from p (length slots) (home id) slots
 
 pub data Look : Type 0 where
   stop : Look

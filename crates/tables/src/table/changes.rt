@@ -4,7 +4,6 @@ ghost use Rattle.rows.specs.Rows.{plain};
 ghost use Rattle.tables.specs.Cells.{free_slot, placing, puts, spanned};
 ghost use Rattle.tables.specs.Tables.{cells, deleted};
 
-use crate::home::home_of;
 use crate::slot::Slot;
 use crate::table::{CAPACITY, SLOTS, Table};
 use refusals::refusal::Refusal;
@@ -27,16 +26,7 @@ impl Table {
     fn free_slot(&self, id: u32) -> Option<usize>
         ensures { result ≡ free_slot id (cells self.now) }
     {
-        let mut slot = home_of(id);
-        for _step in 0..SLOTS {
-            let here = self.slots[slot];
-            match here {
-                Slot::Full(_) => {}
-                _ => return Some(slot),
-            }
-            slot = (slot + 1) % SLOTS;
-        }
-        None
+        self.probe(id, |slot| !matches!(slot, Slot::Full(_)))
     }
 
     // Puts a row in and tells its slot: IdInUse where its id is held, else StoreFull at capacity.
@@ -50,14 +40,10 @@ impl Table {
         if self.count == CAPACITY {
             return Err(Refusal::StoreFull);
         }
-        match self.free_slot(row.id) {
-            None => Err(Refusal::StoreFull),
-            Some(slot) => {
-                self.slots[slot] = Slot::Full(row);
-                self.count += 1;
-                Ok(slot)
-            }
-        }
+        let slot = self.free_slot(row.id).ok_or(Refusal::StoreFull)?;
+        self.slots[slot] = Slot::Full(row);
+        self.count += 1;
+        Ok(slot)
     }
 
     // Gives the row in a slot another span; nothing happens where there is none.
@@ -65,16 +51,9 @@ impl Table {
         ensures after { cells self.new ≡ slice_set (cells self.old) slot (spanned span.start span.end (slice_index_or (cells self.old) slot None)) }
         ensures deleted { deleted self.new ≤ deleted self.old }
     {
-        match self.row_in(slot) {
-            None => {}
-            Some(row) => {
-                self.slots[slot] = Slot::Full(PlainRow {
-                    id: row.id,
-                    span,
-                    key: row.key,
-                    value: row.value,
-                });
-            }
+        if let Some(mut row) = self.row_in(slot) {
+            row.span = span;
+            self.slots[slot] = Slot::Full(row);
         }
     }
 

@@ -1,5 +1,5 @@
-use Rattle.std.proofs.Common.{set, Some, None, sym, refl, ap, ◌∙◌, arith}
-use Rattle.std.proofs.lemmas.List.{length-map, length-set, map-set, set-get_or}
+use Rattle.std.proofs.Common.{set, Some, sym, refl, ap, ◌∙◌, arith}
+use Rattle.std.proofs.lemmas.List.{length-map, length-set, map-set}
 use Rattle.tables.specs.Cells.{filled, spanned}
 use Rattle.tables.specs.Slots.{cell}
 use Rattle.tables.specs.Tables.{cells}
@@ -22,8 +22,8 @@ bounds-self-slot c =
     let t = c.args.self.now in
     omega (arith, seen_within t.slots c.args.slot (Some c.in-Some.row) c.in-Some.ensures refl, t.long)
 
-pub invariant_of-self-in-Some : goal.invariant_of-self-in-Some
-invariant_of-self-in-Some c =
+pub invariant_of-self : goal.invariant_of-self
+invariant_of-self c =
     let t = c.args.self.now in
     let i = c.args.slot in
     let was = sym c.in-Some.ensures in
@@ -32,16 +32,6 @@ invariant_of-self-in-Some c =
       within = t.within;
       counted = t.counted ∙ sym (ap filled (map-set cell t.slots i _) ∙ filled_same (cells t) i _ _ (omega (arith, length-map t.slots cell)) was);
       reached = reached_over t.slots i _ _ l (sym (cell_at t.slots i) ∙ was) refl t.reached;
-    }
-
-pub returns-in-None : goal.returns-in-None
-returns-in-None c =
-    let cs = cells c.args.self.now in
-    let i = c.args.slot in
-    record {
-      after = sym (ap (λ z. set cs i (spanned c.args.span.start c.args.span.end z)) (sym c.in-None.ensures)
-          ∙ ap (set cs i) c.in-None.ensures ∙ set-get_or cs i None);
-      deleted = omega arith;
     }
 
 pub returns-in-Some : goal.returns-in-Some
