@@ -69,7 +69,6 @@ impl<S: Source, R: RowRule> Source for Layer<S, R> {
     }
 
     fn depth(&self) -> u32 {
-        let below = self.below.depth();
-        if below < 65_535 { below + 1 } else { 65_535 }
+        self.below.depth().saturating_add(1).min(65_535)
     }
 }

@@ -10,10 +10,10 @@ use Rattle.piling.specs.declared.any_rule.AnyRule.TheVariants.{Selecting, Shifti
 
 abbrev pub any_rule : AnyRule → Kind → Rule
 any_rule (Selecting x) k = select k x.low x.high x.least x.most
-any_rule (Shifting x) k = shift x.by
-any_rule (Lasting x) k = set_duration x.seconds
+any_rule (Shifting x) k = shift x.by.count
+any_rule (Lasting x) k = set_duration x.lasting.count
 
 pub any_keeps : (x : AnyRule) (k : Kind) → Keeps (any_rule x k)
 any_keeps (Selecting x) k = select_keeps k x.low x.high x.least x.most
-any_keeps (Shifting x) k = shift_keeps x.by
-any_keeps (Lasting x) k = set_duration_keeps x.seconds x.some
+any_keeps (Shifting x) k = shift_keeps x.by.count
+any_keeps (Lasting x) k = set_duration_keeps x.lasting.count x.lasting.some

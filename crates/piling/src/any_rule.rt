@@ -9,6 +9,7 @@ use rules::select::Select;
 use rules::set_duration::SetDuration;
 use rules::shift::Shift;
 
+// An enum, since a rule's calls are generic in the payload, so no `dyn` value can stand for a rule.
 #[derive(Clone, Copy)]
 pub enum AnyRule {
     Selecting(Select),

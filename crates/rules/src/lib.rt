@@ -2,6 +2,7 @@
 #![tactic(auto)]
 
 pub mod rule;
+pub mod seconds;
 pub mod select;
 pub mod set_duration;
 pub mod shift;

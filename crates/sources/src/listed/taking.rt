@@ -12,18 +12,21 @@ use rows::payload::Payload;
 impl<'a, P: Payload> Listed<'a, P> {
     // All events of a slice, numbered from 1.
     pub fn new(events: &'a [Event<P>]) -> Listed<'a, P>
-        ensures { listed_stream P.Payload.pair result.events.now result.place ≡ listed_stream P.Payload.pair events.now 0 }
+        ensures { listed_stream P.Payload.pair result.rest.now result.taken ≡ listed_stream P.Payload.pair events.now 0 }
     {
-        Listed { events, place: 0 }
+        Listed {
+            rest: events,
+            taken: 0,
+        }
     }
 }
 
 impl<'a, P: Payload> Source for Listed<'a, P> {
     type Payload = P;
 
-    ghost stream = { λ s. listed_stream P.Payload.pair s.events.now s.place };
+    ghost stream = { λ s. listed_stream P.Payload.pair s.rest.now s.taken };
 
-    ghost foot = { λ s. listed_stream P.Payload.pair s.events.now s.place };
+    ghost foot = { λ s. listed_stream P.Payload.pair s.rest.now s.taken };
 
     ghost rules = { λ _. [] };
 
@@ -32,15 +35,14 @@ impl<'a, P: Payload> Source for Listed<'a, P> {
     ghost piled = { λ _. refl };
 
     fn take(&mut self) -> Result<Option<Numbered<P>>, Fault> {
-        let place = self.place;
-        if place >= self.events.len() {
+        let [event, rest @ ..] = self.rest else {
             return Ok(None);
-        }
-        let event = self.events[place];
-        self.place = place + 1;
+        };
+        self.rest = rest;
+        self.taken += 1;
         Ok(Some(Numbered {
-            number: place as u64 + 1,
-            event,
+            number: self.taken,
+            event: *event,
         }))
     }
 
