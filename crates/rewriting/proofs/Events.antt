@@ -1,20 +1,22 @@
 -- What an event of a legal list does to the history, id by id.
 use Rattle.std.proofs.Common.{◌≡◌, ℕ, cond, eqb, List, [], ◌∷◌, Some, None, Option, refl, ap, ◌∙◌, arith}
 use Rattle.std.proofs.lemmas.Bool.Decides.{nat_tests}
+use Rattle.std.specs.List.{filter_map}
+use Rattle.std.specs.Option.{option_and_then}
 use Rattle.rows.specs.Rows.{Plain, same, with_end}
 use Rattle.rows.specs.Events.{PlainEvent, insert, retraction, cti}
 use Rattle.rows.specs.Times.{whole}
 use Rattle.receipts.specs.Lists.{In}
 use Rattle.receipts.specs.Histories.{moved, applied, history_from, history, Fitting, cti_after, LegalFrom, Legal}
 use Rattle.rewriting.proofs.Held.{held, Distinct, free_held, held_free, in_held, held_in}
-use Rattle.rewriting.proofs.FilterMap.{filter_map, and_then, filter_map_distinct, held_filter_map}
+use Rattle.rewriting.proofs.FilterMap.{filter_map_distinct, held_filter_map}
 
 -- a history as the row under each id, if any
 abbrev pub ById : Type 0
 ById = ℕ → Option Plain
 
 abbrev pub put : ℕ → Option Plain → ById → ById
-put i o h j = cond (eqb j i) o (h j)
+put i o h j = cond (eqb i j) o (h j)
 
 -- what a retraction to e leaves of a row
 abbrev pub remains : Plain → ℕ → Option Plain
@@ -57,7 +59,7 @@ module _ (r : Plain) (e : ℕ) where
 
   -- the rows of other ids stay
   moved_at : (j : ℕ) (o : Option Plain) → ((x : Plain) → o ≡ Some x → x.id ≡ j) → (j ≡ r.id → o ≡ Some r) →
-      and_then moved_row o ≡ cond (eqb j r.id) (remains r e) o
+      option_and_then moved_row o ≡ cond (eqb r.id j) (remains r e) o
   moved_at j o its-id here = grind (arith, nat_tests)
 
   held_moved : (xs : List Plain) (j : ℕ) → Distinct xs → In r xs → held (moved r e xs) j ≡ put r.id (remains r e) (held xs) j

@@ -1,21 +1,11 @@
 -- Lists made row by row, each row giving one with its id or none: what they hold under an id.
 use Rattle.std.proofs.Common.{◌≡◌, ℕ, List, [], ◌∷◌, Some, None, Option, sym, refl, ap, ◌∙◌, inl, inr, arith}
 use Rattle.std.proofs.lemmas.Bool.Decides.{nat_tests}
+use Rattle.std.specs.List.{cons_option, filter_map}
+use Rattle.std.specs.Option.{option_and_then}
 use Rattle.rows.specs.Rows.{Plain}
 use Rattle.receipts.specs.Lists.{In, SameMembers}
 use Rattle.rewriting.proofs.Held.{held, Free, Distinct, free_held}
-
-abbrev pub with_row : Option Plain → List Plain → List Plain
-with_row None xs = xs
-with_row (Some x) xs = x ∷ xs
-
-abbrev pub filter_map : (Plain → Option Plain) → List Plain → List Plain
-filter_map g [] = []
-filter_map g (x ∷ xs) = with_row (g x) (filter_map g xs)
-
-abbrev pub and_then : (Plain → Option Plain) → Option Plain → Option Plain
-and_then g None = None
-and_then g (Some x) = g x
 
 module _ (g : Plain → Option Plain) where
   -- a row of xs that gives y
@@ -26,7 +16,7 @@ module _ (g : Plain → Option Plain) where
   origin [] y h = absurd h
   origin (x ∷ xs) y h = go (λ k. let o = origin xs y k in (o.0, inr o.1, o.2)) (g x) refl h
     where
-      go : (In y (filter_map g xs) → Origin y (x ∷ xs)) → (o : Option Plain) → g x ≡ o → In y (with_row o (filter_map g xs)) → Origin y (x ∷ xs)
+      go : (In y (filter_map g xs) → Origin y (x ∷ xs)) → (o : Option Plain) → g x ≡ o → In y (cons_option o (filter_map g xs)) → Origin y (x ∷ xs)
       go rest None p k = rest k
       go rest (Some z) p (inl e) = (x, inl refl, p ∙ ap Some (sym e))
       go rest (Some z) p (inr k) = rest k
@@ -50,11 +40,11 @@ module _ (g : Plain → Option Plain) where
     filter_map_distinct [] d = tt
     filter_map_distinct (x ∷ xs) d = go (g x) refl (filter_map_distinct xs d.1)
       where
-        go : (o : Option Plain) → g x ≡ o → Distinct (filter_map g xs) → Distinct (with_row o (filter_map g xs))
+        go : (o : Option Plain) → g x ≡ o → Distinct (filter_map g xs) → Distinct (cons_option o (filter_map g xs))
         go None p rest = rest
         go (Some y) p rest = (filter_map_free y.id xs (λ z h e. d.0 z h (e ∙ keeps-id x y p)), rest)
 
-    pub held_filter_map : (xs : List Plain) (j : ℕ) → Distinct xs → held (filter_map g xs) j ≡ and_then g (held xs j)
+    pub held_filter_map : (xs : List Plain) (j : ℕ) → Distinct xs → held (filter_map g xs) j ≡ option_and_then g (held xs j)
     held_filter_map [] j d = refl
     held_filter_map (x ∷ xs) j d =
         let rest = held_filter_map xs j d.1 in

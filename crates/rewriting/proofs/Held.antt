@@ -1,13 +1,13 @@
 -- The row that a list holds under an id, where no id comes twice.
-use Rattle.std.proofs.Common.{◌≡◌, ℕ, cond, eqb, List, [], ◌∷◌, Some, None, Option, sym, refl, ◌∙◌, inl, inr, ⊎_elim, arith}
+use Rattle.std.proofs.Common.{◌≡◌, ℕ, List, [], ◌∷◌, Some, None, Option, sym, refl, ◌∙◌, inl, inr, ⊎_elim, arith}
 use Rattle.std.proofs.lemmas.Bool.{cases_eq}
 use Rattle.std.proofs.lemmas.Bool.Decides.{nat_tests}
 use Rattle.rows.specs.Rows.{Plain}
 use Rattle.receipts.specs.Lists.{In, Once, SameMembers}
+use Rattle.receipts.specs.Stores.{found}
 
 abbrev pub held : List Plain → ℕ → Option Plain
-held [] j = None
-held (x ∷ xs) j = cond (eqb j x.id) (Some x) (held xs j)
+held xs j = found j xs
 
 -- no row has the id j
 abbrev pub Free : ℕ → List Plain → Type 0

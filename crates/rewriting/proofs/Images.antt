@@ -1,11 +1,13 @@
 -- The images of a history's rows, id by id.
 use Rattle.std.proofs.Common.{◌≡◌, ℕ, List, [], ◌∷◌, Some, None, Option, refl, ap, ◌∙◌, arith}
+use Rattle.std.specs.List.{filter_map}
+use Rattle.std.specs.Option.{option_and_then}
 use Rattle.rows.specs.Rows.{Plain}
 use Rattle.receipts.specs.Lists.{SameMembers}
 use Rattle.rewriting.specs.Rules.{Image, refuses, nothing, to, Rule, spanned}
 use Rattle.rewriting.specs.Layers.{images}
 use Rattle.rewriting.proofs.Held.{held, Distinct}
-use Rattle.rewriting.proofs.FilterMap.{filter_map, and_then, filter_map_same, filter_map_distinct, held_filter_map}
+use Rattle.rewriting.proofs.FilterMap.{filter_map_same, filter_map_distinct, held_filter_map}
 
 abbrev pub image_row : Plain → Image → Option Plain
 image_row r (refuses w) = None
@@ -16,7 +18,7 @@ abbrev row_image : Rule → Plain → Option Plain
 row_image f r = image_row r (f.image r)
 
 abbrev pub image_of : Rule → Option Plain → Option Plain
-image_of f o = and_then (row_image f) o
+image_of f o = option_and_then (row_image f) o
 
 module _ (f : Rule) where
   row_image_id : (r y : Plain) → row_image f r ≡ Some y → y.id ≡ r.id
