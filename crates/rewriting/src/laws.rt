@@ -3,36 +3,26 @@ ghost use Rattle.rewriting.specs.Laws.{LayersLawful, PilesLawful, PilesGrow, Rul
 ghost use Rattle.rewriting.specs.Examples.{Examples};
 
 // A layer over a legal list that doesn't fault has a legal list, whose history is the image of the one below.
-pub fn layers_are_lawful() -> u8
+pub fn layers_are_lawful()
     ensures { LayersLawful }
-{
-    0
-}
+{}
 
 // So has a pile of layers of any height.
-pub fn piles_are_lawful() -> u8
+pub fn piles_are_lawful()
     ensures { PilesLawful }
-{
-    0
-}
+{}
 
 // A pile with one more rule on top is a layer over the pile.
-pub fn piles_grow() -> u8
+pub fn piles_grow()
     ensures { PilesGrow }
-{
-    0
-}
+{}
 
 // Select, shift and set duration keep the laws of row rules.
-pub fn rules_keep_laws() -> u8
+pub fn rules_keep_laws()
     ensures { RulesKeep }
-{
-    0
-}
+{}
 
 // The worked examples hold of the definitions.
-pub fn examples_hold() -> u8
+pub fn examples_hold()
     ensures { Examples }
-{
-    0
-}
+{}
