@@ -9,7 +9,6 @@ use hashed::store::HashedStore;
 use kinds::reading::Reading;
 use kinds::tally::Tally;
 use layers::layer::Layer;
-use printing::{PrintedLine, PrintedWindow};
 use receipts::line::Line;
 use receipts::window::Window;
 use refusals::fault::{Fault, Side};
@@ -80,8 +79,7 @@ fn serve(
 
 fn print_lines(rt: &HostRuntime, lines: &[Line]) -> anyhow::Result<()> {
     for line in lines {
-        let printed = PrintedLine(*line);
-        println!(rt; "{printed}")?;
+        println!(rt; "{line}")?;
     }
     Ok(())
 }
@@ -95,8 +93,7 @@ fn print_windows(rt: &HostRuntime, lines: &[Line], windows: &[Window]) -> anyhow
             print_lines(rt, &lines[from..end])?;
             from = end;
         }
-        let printed = PrintedWindow(*window);
-        println!(rt; "{printed}")?;
+        println!(rt; "{window}")?;
     }
     Ok(())
 }
@@ -120,27 +117,8 @@ fn main(rt: HostRuntime) -> anyhow::Result<()> {
     let width = read_width(&rt)?;
     let left = read_file(&rt, "left.txt")?;
     let right = read_file(&rt, "right.bin")?;
-    let blank = Line {
-        left_id: 0,
-        right_id: 0,
-        start: 0,
-        end: 0,
-        key: 0,
-        left_least: 0,
-        left_most: 0,
-        right_least: 0,
-        right_most: 0,
-    };
-    let mut lines = vec![in rt.alloc(); blank; PLACES]?;
-    let unused = Window {
-        start: 0,
-        end: 0,
-        count: 0,
-        lines: 0,
-        purged_left: 0,
-        purged_right: 0,
-    };
-    let mut windows = vec![in rt.alloc(); unused; PLACES]?;
+    let mut lines = vec![in rt.alloc(); Line::default(); PLACES]?;
+    let mut windows = vec![in rt.alloc(); Window::default(); PLACES]?;
     let report = match serve(
         width,
         left.as_slice(),

@@ -1,3 +1,3 @@
 pub mod Kinds
 pub mod Examples
-pub mod Clipped
+pub mod Measures

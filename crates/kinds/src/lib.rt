@@ -3,12 +3,11 @@
 
 ghost use Rattle.kinds.specs.Examples.{Examples};
 
+pub mod measured;
 pub mod reading;
 pub mod tally;
 
 // The worked examples hold.
-pub fn examples_hold() -> u8
+pub fn examples_hold()
     ensures { Examples }
-{
-    0
-}
+{}

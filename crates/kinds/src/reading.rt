@@ -1,13 +1,40 @@
 // A reading: what the sensor of a locker's shelf counted.
-ghost use Rattle.std.specs.Prelude.{◌≤◌};
+ghost use Rattle.std.proofs.Common.{lit≤};
+ghost use Rattle.kinds.specs.Kinds.{readings};
+ghost use Rattle.kinds.specs.Measures.{readings_ordered};
 
-pub mod kind;
+use crate::measured::{Measure, Measured};
+use rows::payload::UNLIMITED;
+use weights::{LAST_COUNT, grams_of};
 
-// The key is that of a locker, and the count is one of the sensor's.
-#[derive(Clone, Copy, PartialEq, Eq, Debug)]
-pub struct Reading {
-    key: u32,
-    count: u32,
-    ghost locker: { key ≤ 9999 },
-    ghost counted: { count ≤ 4095 },
+// A count of the sensor, at most the last: least and most are its weight in grams, but for a clipped reading, whose most
+// is unlimited.
+pub struct Grams;
+
+impl Measure for Grams {
+    ghost kind = { readings };
+
+    ghost topped = { lit≤ tt };
+
+    ghost ordered = { readings_ordered };
+
+    fn top() -> u32 {
+        LAST_COUNT
+    }
+
+    fn least(_key: u32, count: u32) -> u32 {
+        grams_of(count).unwrap()
+    }
+
+    // A reading at the last count is clipped: the weight may be any above.
+    fn most(key: u32, count: u32) -> u32 {
+        if count < LAST_COUNT {
+            Grams::least(key, count)
+        } else {
+            UNLIMITED
+        }
+    }
 }
+
+// A locker and what the sensor of its shelf counted.
+pub type Reading = Measured<Grams>;

@@ -1,16 +1,35 @@
 // A tally: how many pieces are in a locker.
-ghost use Rattle.std.specs.Prelude.{◌≤◌};
+ghost use Rattle.std.proofs.Common.{lit≤};
+ghost use Rattle.kinds.specs.Kinds.{tallies};
+ghost use Rattle.kinds.specs.Measures.{tallies_ordered};
 
-pub mod kind;
+use crate::measured::{Measure, Measured};
 
 // The most pieces that a tally can tell.
 pub const LAST_PIECE: u32 = 99;
 
-// The key is that of a locker, and there are at most 99 pieces.
-#[derive(Clone, Copy, PartialEq, Eq, Debug)]
-pub struct Tally {
-    key: u32,
-    pieces: u32,
-    ghost locker: { key ≤ 9999 },
-    ghost few: { pieces ≤ 99 },
+// A number of pieces, at most 99: least and most are the pieces counted.
+pub struct Pieces;
+
+impl Measure for Pieces {
+    ghost kind = { tallies };
+
+    ghost topped = { lit≤ tt };
+
+    ghost ordered = { tallies_ordered };
+
+    fn top() -> u32 {
+        LAST_PIECE
+    }
+
+    fn least(_key: u32, pieces: u32) -> u32 {
+        pieces
+    }
+
+    fn most(_key: u32, pieces: u32) -> u32 {
+        pieces
+    }
 }
+
+// A locker and how many pieces are in it.
+pub type Tally = Measured<Pieces>;

@@ -7,3 +7,4 @@ pub mod Queries
 pub mod Transcripts
 pub mod Laws
 pub mod Examples
+pub mod Printed

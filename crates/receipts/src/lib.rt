@@ -3,4 +3,5 @@
 
 pub mod laws;
 pub mod line;
+pub mod printed;
 pub mod window;

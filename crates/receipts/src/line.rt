@@ -2,7 +2,7 @@
 
 // The higher start and the lower end of the two rows, their key, and what the payload of each stands for at least and
 // at most.
-#[derive(Clone, Copy, PartialEq, Eq, Debug)]
+#[derive(Clone, Copy, PartialEq, Eq, Default, Debug)]
 pub struct Line {
     pub left_id: u32,
     pub right_id: u32,

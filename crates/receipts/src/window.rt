@@ -2,7 +2,7 @@
 
 // The window's start and end, how many join rows fall into it, how many lines were handed out, and how many rows were
 // purged on each side.
-#[derive(Clone, Copy, PartialEq, Eq, Debug)]
+#[derive(Clone, Copy, PartialEq, Eq, Default, Debug)]
 pub struct Window {
     pub start: u32,
     pub end: u32,

@@ -16,6 +16,14 @@ pub trait Payload: Copy {
 
     ghost pair: { Self → Pair };
 
+    ghost topped: { kind.top ≤ 65535 };
+
+    ghost ordered: { (key value : ℕ) → in_range kind key value ≡ true → kind.least key value ≤ kind.most key value };
+
+    ghost ranged: { (x : Self) → in_range kind (pair x).key (pair x).value ≡ true };
+
+    ghost back: { (x y : Self) → pair x ≡ pair y → x ≡ y };
+
     // The greatest value of the kind.
     fn top() -> u32
         ensures { result ≡ kind.top };
@@ -37,13 +45,4 @@ pub trait Payload: Copy {
     // The payload of a key and a value, or BadPayload where one is out of range.
     fn make(key: u32, value: u32) -> Result<Self, Refusal>
         ensures { made_pair pair result ≡ pair_made kind key value };
-
-    // The laws. A ghost member is a law only below the methods.
-    ghost topped: { kind.top ≤ 65535 };
-
-    ghost ordered: { (key value : ℕ) → in_range kind key value ≡ true → kind.least key value ≤ kind.most key value };
-
-    ghost ranged: { (x : Self) → in_range kind (pair x).key (pair x).value ≡ true };
-
-    ghost back: { (x y : Self) → pair x ≡ pair y → x ≡ y };
 }

@@ -1,12 +1,8 @@
 -- How weighed numbers are printed.
---     most_text m         a most: its number in decimal, `*` where it is unlimited
---     weighed_line w      number, least and most, with a space between each two
-use Rattle.std.specs.Prelude.{ℕ, cond, List, ◌++◌, codes, decimal, ◌==◌}
-use Rattle.kinds.specs.Kinds.{unlimited}
+--     weighed_line w      number, least and most, `*` where it is unlimited, with a space between each two
+use Rattle.std.specs.Prelude.{List, ℕ, ◌++◌, codes, decimal}
+use Rattle.rows.specs.Printed.{starred_text}
 use Rattle.weighing.specs.declared.weighed.Weighed.{Weighed}
 
-abbrev pub most_text : ℕ → List ℕ
-most_text m = cond (m == unlimited) (codes "*") (decimal m)
-
 abbrev pub weighed_line : Weighed → List ℕ
-weighed_line w = decimal w.number ++ (codes " " ++ (decimal w.least ++ (codes " " ++ most_text w.most)))
+weighed_line w = decimal w.number ++ (codes " " ++ (decimal w.least ++ (codes " " ++ starred_text w.most)))

@@ -21,20 +21,19 @@ pub struct Report {
 
 // Weighs the lines up to the first that is refused; its fault tells the line's number.
 fn weigh_lines(heap: Global, bytes: &[u8]) -> Result<Report, AllocError>
-    requires { length bytes.now ≤ 65536 }
     ensures { IfOk result (λ report. outcome report ≡ lines_from 1 bytes.now) }
 {
     let mut weighed = Vec::new(heap);
     let mut rest = bytes;
-    let mut line: u64 = 1;
+    // A plain loop: each line tells where the next one begins.
     while !rest.is_empty() {
         match weigh_line(rest) {
             Ok((one, after)) => {
                 weighed.push(one)?;
                 rest = after;
-                line += 1;
             }
             Err(refusal) => {
+                let line = weighed.len() as u64 + 1;
                 return Ok(Report {
                     weighed,
                     fault: Some(Fault::at_event(refusal, 0, line)),

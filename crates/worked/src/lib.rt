@@ -9,8 +9,8 @@ pub fn worked_examples_hold()
 {
     decimals::decimal_examples();
     groups::groups_examples();
-    let _ = kinds::examples_hold();
-    let _ = receipts::laws::examples_hold();
+    kinds::examples_hold();
+    receipts::laws::examples_hold();
     rewriting::laws::examples_hold();
     run_laws::laws::examples_hold();
 }

@@ -42,5 +42,5 @@ returns g c =
       value = written_ok pair es out c.put_events.result c.put_events.new.out t (omega arith) c.put_events.ensures.place c.put_events.ensures.after;
       exact =
           subst (Spells g.P.Payload.kind (listed_stream pair es 0)) (sym bytes)
-          (file_spelt pair g.P.Payload.kind g.met.P.Payload.ranged es t c.put_events.ensures.small (omega arith));
+          (file_spelt pair g.P.Payload.kind g.P.Payload.ranged es t c.put_events.ensures.small (omega arith));
     }

@@ -1,4 +1,4 @@
-use Rattle.std.proofs.Common.{◌<◌, length, vec_items, sym, arith, rules}
+use Rattle.std.proofs.Common.{◌<◌, length, vec_items, sym, rules}
 use Rattle.weighing.proofs.Read.{line_shorter}
 use Rattle.weighing.proofs.Taking.{one_taken, one_refused, all_taken}
 use Rattle.weighing.proofs.input.weigh_lines.Goals as goal
@@ -8,19 +8,16 @@ loop-rest-smaller c = line_shorter c.loop-rest.rest.now c.in-Ok.after.now c.in-O
 
 pub loop-rest-preserved : goal.loop-rest-preserved
 loop-rest-preserved c =
-    let shorter = line_shorter c.loop-rest.rest.now c.in-Ok.after.now c.in-Ok.one (sym c.in-Ok.ensures) in (
-      one_taken (vec_items c.loop-rest.weighed) (vec_items c.push.new.self) c.loop-rest.line c.loop-rest.rest.now
-          c.in-Ok.after.now c.in-Ok.one _ c.loop-rest.invariant.0 (sym c.in-Ok.ensures) c.in_ok-push-in-Ok.ensures.items,
-      omega arith,
-    )
+    one_taken (vec_items c.loop-rest.weighed) (vec_items c.push.new.self) c.loop-rest.rest.now c.in-Ok.after.now c.in-Ok.one _
+    c.loop-rest.invariant (sym c.in-Ok.ensures) c.in_ok-push-in-Ok.ensures.items
 
 pub returns-in-Err : goal.returns-in-Err
 returns-in-Err c =
     let some : 0 < length c.loop-rest.rest.now = search rules in
-    one_refused (vec_items c.loop-rest.weighed) c.loop-rest.line c.loop-rest.rest.now c.in-Err.refusal c.at_event.result _
-    c.loop-rest.invariant.0 some (sym c.in-Err.ensures) c.at_event.ensures
+    one_refused (vec_items c.loop-rest.weighed) c.loop-rest.rest.now c.in-Err.refusal c.at_event.result _
+    c.loop-rest.invariant some (sym c.in-Err.ensures) (cc)
 
 pub returns : goal.returns
 returns c =
     let none : length c.loop-rest.rest.now < 1 = search rules in
-    all_taken (vec_items c.loop-rest.weighed) c.loop-rest.line c.loop-rest.rest.now _ c.loop-rest.invariant.0 none
+    all_taken (vec_items c.loop-rest.weighed) c.loop-rest.rest.now _ c.loop-rest.invariant none

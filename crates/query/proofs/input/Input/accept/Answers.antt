@@ -13,5 +13,5 @@ returns-in_err-judge_times g c =
     ap (λ a. half_outcome a h) told.1
     ∙ ap (λ why. half_outcome (Err why) h) told.2
     ∙ taken_untimely g.P.Payload.kind g.S.Store.capacity e h
-    (event_ranged g.P.Payload.kind g.P.Payload.pair g.met.P.Payload.ranged c.args.event)
+    (event_ranged g.P.Payload.kind g.P.Payload.pair g.P.Payload.ranged c.args.event)
     c.in_err-judge_times.field-0.0 c.in_err-judge_times.ensures

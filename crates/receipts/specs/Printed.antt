@@ -1,21 +1,18 @@
 -- How receipt lines and window records are printed.
---     most_text m                 a most: its number in decimal, `*` where it is unlimited
 --     two_text a b                two numbers, with a space between them
---     limits_text least most      least and most, with a space between them
+--     limits_text least most      least and most, `*` where it is unlimited, with a space between them
 --     line_text x                 `L` and the nine numbers of a line, with a space between each two
 --     window_text w               `W` and the six numbers of a window record, with a space between each two
-use Rattle.std.specs.Prelude.{ℕ, cond, List, ◌++◌, codes, decimal, ◌==◌}
+use Rattle.std.specs.Prelude.{ℕ, List, ◌++◌, codes, decimal}
+use Rattle.rows.specs.Printed.{starred_text}
 use Rattle.receipts.specs.declared.line.Line.{Line}
 use Rattle.receipts.specs.declared.window.Window.{Window}
-
-abbrev pub most_text : ℕ → List ℕ
-most_text m = cond (m == 4294967295) (codes "*") (decimal m)
 
 abbrev pub two_text : ℕ → ℕ → List ℕ
 two_text a b = decimal a ++ (codes " " ++ decimal b)
 
 abbrev pub limits_text : ℕ → ℕ → List ℕ
-limits_text least most = decimal least ++ (codes " " ++ most_text most)
+limits_text least most = decimal least ++ (codes " " ++ starred_text most)
 
 abbrev pub line_text : Line → List ℕ
 line_text x =

@@ -1,0 +1,54 @@
+// A payload that keeps a key and a value in range, and what such a payload measures.
+ghost use Rattle.std.specs.Prelude.{◌≡◌, ℕ, ◌≤◌, true, ⊤};
+ghost use Rattle.rows.specs.Kinds.{Kind, in_range};
+
+use std::alloc::AllocError;
+use std::marker::PhantomData;
+
+pub mod kind;
+
+// A kind of payload, told by its greatest value and by what least and most are for a key and a value in range.
+pub trait Measure {
+    ghost kind: { Kind };
+
+    ghost topped: { kind.top ≤ 65535 };
+
+    ghost ordered: { (key value : ℕ) → in_range kind key value ≡ true → kind.least key value ≤ kind.most key value };
+
+    // The greatest value.
+    fn top() -> u32
+        ensures { result ≡ kind.top };
+
+    // What a value stands for is at least this.
+    fn least(key: u32, value: u32) -> u32
+        requires { in_range kind key value ≡ true }
+        ensures { result ≡ kind.least key value };
+
+    // What a value stands for is at most this, or UNLIMITED.
+    fn most(key: u32, value: u32) -> u32
+        requires { in_range kind key value ≡ true }
+        ensures { result ≡ kind.most key value };
+}
+
+// The key is that of a locker, and the value is at most the measure's greatest.
+#[derive_where(PartialEq, Eq, Debug)]
+pub struct Measured<M: Measure> {
+    key: u32,
+    value: u32,
+    measure: PhantomData<M>,
+    ghost locker: { key ≤ 9999 },
+    ghost bounded: { value ≤ M.kind.top },
+}
+
+// Written out, since a struct with ghost fields derives no copy for a type parameter.
+impl<M: Measure> Clone for Measured<M> {
+    ghost is_clone = { λ x y. y ≡ x };
+
+    ghost is_infallible = { λ _. ⊤ };
+
+    fn clone(&self) -> Result<Measured<M>, AllocError> {
+        Ok(*self)
+    }
+}
+
+impl<M: Measure> Copy for Measured<M> {}
