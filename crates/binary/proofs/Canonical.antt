@@ -20,7 +20,7 @@ use Rattle.groups.specs.Groups.{Bytes}
 use Rattle.binary.specs.Binary.{binary_read}
 use Rattle.binary.specs.Writing.{numbers_of, Small, event_bytes, file_bytes, all_timely, AllSmall}
 use Rattle.binary.specs.Canonical.{Spells}
-use Rattle.binary.specs.KindBytes.{binary_ends}
+use Rattle.binary.specs.Ends.{binary_ends}
 use Rattle.binary.proofs.Exact.{event_back, event_spelt}
 
 -- e is read before rest

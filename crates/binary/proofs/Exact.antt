@@ -13,8 +13,7 @@ use Rattle.groups.proofs.Exactness.{written_read, read_written}
 use Rattle.rows.specs.Events.{PlainEvent, insert, retraction, cti}
 use Rattle.binary.specs.Binary.{end_read, binary_read}
 use Rattle.binary.specs.Writing.{numbers_of, Small, all_groups, event_bytes}
-use Rattle.binary.specs.KindBytes as kinds
-use Rattle.binary.specs.KindBytes.{Known, known}
+use Rattle.files.proofs.ByKind.{Kinded, inserted, retracted, timed, kinded}
 
 -- reading what is written
 
@@ -138,11 +137,14 @@ cti_spelt f bs rest b e =
     subst (λ x. (3 ∷ bs ≡ event_bytes (event_in x) ++ rest) × Bytes rest) o.0
     (subst (λ zs. (3 ∷ bs ≡ event_bytes (event_in (Cti p.0)) ++ zs) × Bytes zs) o.1 (ap (λ zs. 3 ∷ zs) s.0, s.1))
 
+abbrev Known : ℕ → List ℕ → List ℕ → Fields → Type 0
+Known k bs rest f = Kinded (insert_by groups_read end_read) (retraction_by groups_read end_read) (cti_by groups_read) 1 2 3 k bs rest f
+
 known_spelt : (k : ℕ) (bs rest : List ℕ) (f : Fields) → Bytes bs → Known k bs rest f → (k ∷ bs ≡ event_bytes (event_in f) ++ rest) × Bytes rest
-known_spelt k bs rest f b (kinds.insert p e) = subst (λ j. (j ∷ bs ≡ event_bytes (event_in f) ++ rest) × Bytes rest) (sym p) (insert_spelt f bs rest b e)
-known_spelt k bs rest f b (kinds.retraction p e) = subst (λ j. (j ∷ bs ≡ event_bytes (event_in f) ++ rest) × Bytes rest) (sym p) (retraction_spelt f bs rest b e)
-known_spelt k bs rest f b (kinds.cti p e) = subst (λ j. (j ∷ bs ≡ event_bytes (event_in f) ++ rest) × Bytes rest) (sym p) (cti_spelt f bs rest b e)
+known_spelt k bs rest f b (inserted p e) = subst (λ j. (j ∷ bs ≡ event_bytes (event_in f) ++ rest) × Bytes rest) (sym p) (insert_spelt f bs rest b e)
+known_spelt k bs rest f b (retracted p e) = subst (λ j. (j ∷ bs ≡ event_bytes (event_in f) ++ rest) × Bytes rest) (sym p) (retraction_spelt f bs rest b e)
+known_spelt k bs rest f b (timed p e) = subst (λ j. (j ∷ bs ≡ event_bytes (event_in f) ++ rest) × Bytes rest) (sym p) (cti_spelt f bs rest b e)
 
 pub event_spelt : (bs rest : List ℕ) (f : Fields) → Bytes bs → binary_read bs ≡ Ok (f, rest) → (bs ≡ event_bytes (event_in f) ++ rest) × Bytes rest
 event_spelt [] rest f b e = absurd (let z : ◌≡◌ {A = ℕ} 0 1 = cc in omega arith)
-event_spelt (k ∷ bs) rest f b e = known_spelt k bs rest f (λ i. b (suc i)) (known k bs rest f e)
+event_spelt (k ∷ bs) rest f b e = known_spelt k bs rest f (λ i. b (suc i)) (kinded (insert_by groups_read end_read) (retraction_by groups_read end_read) (cti_by groups_read) 1 2 3 k bs rest f e)

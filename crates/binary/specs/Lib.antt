@@ -1,4 +1,5 @@
+pub mod EventKinds
 pub mod Binary
 pub mod Writing
 pub mod Canonical
-pub mod KindBytes
+pub mod Ends

@@ -3,14 +3,14 @@
 --     numbers_of e            the numbers of the event e, in the order of its fields
 --     Small ns                each of the numbers ns is below 2 ^ 32
 --     all_groups ns           the numbers ns in groups, one after another
---     spelled kind count ns   the byte kind, and then the first count of the numbers ns in groups
+--     spelled kind ns         the byte of the kind, and then the numbers ns in groups
 --     event_bytes e           the event e in binary
 --     file_bytes pair es      the events es in binary, one after another
 --     all_timely pair es      the times of each of es are lawful
 --     AllSmall pair es        the numbers of each of es are below 2 ^ 32
 --     written pair es out     what writing es into out answers, and out after it: how many bytes, from its front on, or BadTime, or
 --                             else OutFull where there is no room or the bytes are more than 65,536, and out as it was
-use Rattle.std.specs.Prelude.{ℕ, ◌^◌, ◌<◌, min, Bool, true, cond, ◌&&◌, List, [], ◌∷◌, ◌++◌, length, take, Ok, Err, Result, nat_le}
+use Rattle.std.specs.Prelude.{ℕ, ◌^◌, ◌<◌, min, Bool, true, cond, ◌&&◌, List, [], ◌∷◌, ◌++◌, length, Ok, Err, Result, nat_le}
 use Rattle.refusals.specs.declared.refusal.Refusal.{Refusal}
 use Rattle.refusals.specs.declared.refusal.Refusal.TheVariants.{BadTime, OutFull}
 use Rattle.groups.specs.Groups.{groups_of}
@@ -18,6 +18,8 @@ use Rattle.groups.specs.Puts.{put_all}
 use Rattle.rows.specs.declared.event.Event.{Event}
 use Rattle.rows.specs.Events.{PlainEvent, insert, retraction, cti, plain_event, timely}
 use Rattle.rows.specs.Kinds.{Pair}
+use Rattle.binary.specs.declared.kind.EventKind.{EventKind}
+use Rattle.binary.specs.EventKinds.{byte_of}
 
 abbrev pub kind_byte : PlainEvent → ℕ
 kind_byte (insert r) = 1
@@ -37,8 +39,8 @@ abbrev pub all_groups : List ℕ → List ℕ
 all_groups [] = []
 all_groups (n ∷ ns) = groups_of n ++ all_groups ns
 
-abbrev pub spelled : ℕ → ℕ → List ℕ → List ℕ
-spelled kind count ns = kind ∷ all_groups (take count ns)
+abbrev pub spelled : EventKind → List ℕ → List ℕ
+spelled kind ns = byte_of kind ∷ all_groups ns
 
 abbrev pub event_bytes : PlainEvent → List ℕ
 event_bytes e = kind_byte e ∷ all_groups (numbers_of e)

@@ -4,20 +4,14 @@ ghost use Rattle.refusals.specs.Parts.{told};
 ghost use Rattle.files.specs.Orders.{head_by, pair_by, insert_by, retraction_by, cti_by};
 ghost use Rattle.groups.specs.Groups.{groups_read};
 ghost use Rattle.binary.specs.Binary.{end_read, binary_read};
-ghost use Rattle.binary.specs.KindBytes.{binary_ends};
+ghost use Rattle.binary.specs.Ends.{binary_ends};
 
+use crate::kind::EventKind;
 use files::fields::{EndField, Fields, RowFields};
 use files::form::Form;
 use groups::read_groups;
 use refusals::refusal::Refusal;
 use rows::span::FOREVER;
-
-// The bytes of the kinds.
-pub const INSERT: u8 = 1;
-
-pub const RETRACTION: u8 = 2;
-
-pub const CTI: u8 = 3;
 
 // The end FOREVER is its number.
 fn end(bytes: &[u8]) -> Result<(EndField, &[u8]), Refusal>
@@ -108,11 +102,10 @@ impl Form for Binary {
         let [kind, rest @ ..] = bytes else {
             return Err(Refusal::CutOff);
         };
-        match *kind {
-            INSERT => insert(rest),
-            RETRACTION => retraction(rest),
-            CTI => cti(rest),
-            _ => Err(Refusal::BadByte),
+        match EventKind::try_from(*kind)? {
+            EventKind::Insert => insert(rest),
+            EventKind::Retraction => retraction(rest),
+            EventKind::Cti => cti(rest),
         }
     }
 }

@@ -2,5 +2,6 @@
 #![tactic(auto)]
 
 pub mod form;
+pub mod kind;
 mod spelling;
 pub mod writer;

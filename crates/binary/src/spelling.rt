@@ -1,34 +1,23 @@
-// An event as the numbers that the binary form writes.
+// An event as the bytes that the binary form writes: the byte of its kind, and its numbers in groups.
 ghost use Rattle.std.specs.Prelude.{◌≡◌, ◌+◌, ◌≤◌, length};
 ghost use Rattle.groups.specs.Groups.{groups_of};
 ghost use Rattle.groups.specs.Puts.{put_all};
-ghost use Rattle.rows.specs.Events.{plain_event};
+ghost use Rattle.rows.specs.Rows.{plain_of};
+ghost use Rattle.rows.specs.Events.{insert, retraction, plain_event};
 ghost use Rattle.binary.specs.Writing.{numbers_of, Small, all_groups, spelled, event_bytes};
 
-use crate::form::{CTI, INSERT, RETRACTION};
+use crate::kind::EventKind;
 use groups::{groups_len, put_groups};
 use rows::event::Event;
 use rows::payload::Payload;
-
-// The byte of the event's kind, and the first `count` of the numbers.
-#[derive(Clone, Copy)]
-pub struct Spelling {
-    kind: u8,
-    numbers: [u32; 6],
-    count: usize,
-    ghost counted: { count ≤ 6 },
-}
+use rows::row::Row;
 
 fn numbers_len(numbers: &[u32]) -> usize
     requires { length numbers.now ≤ 6 }
     ensures value { result ≡ length (all_groups numbers.now) }
     ensures few { result ≤ 30 }
 {
-    let mut len = 0;
-    for n in numbers {
-        len += groups_len(*n);
-    }
-    len
+    numbers.iter().map(|n| groups_len(*n)).sum()
 }
 
 fn put_number(out: &mut [u8], at: usize, n: u32) -> usize
@@ -51,55 +40,56 @@ fn put_numbers(out: &mut [u8], at: usize, numbers: &[u32]) -> usize
     place
 }
 
-impl Spelling {
-    fn new(kind: u8, numbers: [u32; 6], count: usize) -> Spelling
-        requires { count ≤ 6 }
-        ensures kind { result.kind ≡ kind }
-        ensures numbers { result.numbers ≡ numbers }
-        ensures count { result.count ≡ count }
-    {
-        Spelling {
-            kind,
-            numbers,
-            count,
+fn put_spelled(out: &mut [u8], at: usize, kind: EventKind, numbers: &[u32]) -> usize
+    requires { at + length (spelled kind numbers.now) ≤ length out.old }
+    ensures place { result ≡ at + length (spelled kind numbers.now) }
+    ensures after { out.new ≡ put_all out.old at (spelled kind numbers.now) }
+{
+    out[at] = kind as u8;
+    put_numbers(out, at + 1, numbers)
+}
+
+// The numbers of an insert, in the order of its fields.
+fn inserted<P: Payload>(row: Row<P>) -> [u32; 5]
+    ensures value { result ≡ numbers_of (insert (plain_of P.Payload.pair row)) }
+    ensures small { Small (numbers_of (insert (plain_of P.Payload.pair row))) }
+{
+    let (key, value) = (row.payload.key(), row.payload.value());
+    [row.id, row.span.start(), row.span.end(), key, value]
+}
+
+// The numbers of a retraction, in the order of its fields.
+fn retracted<P: Payload>(row: Row<P>, new_end: u32) -> [u32; 6]
+    ensures value { result ≡ numbers_of (retraction (plain_of P.Payload.pair row) new_end) }
+    ensures small { Small (numbers_of (retraction (plain_of P.Payload.pair row) new_end)) }
+{
+    let [id, start, end, key, value] = inserted(row);
+    [id, start, end, new_end, key, value]
+}
+
+// How many bytes an event takes.
+pub(crate) fn event_len<P: Payload>(event: Event<P>) -> usize
+    ensures { result ≡ length (event_bytes (plain_event P.Payload.pair event)) }
+{
+    1 + match event {
+        Event::Insert(row) => numbers_len(&inserted(row)),
+        Event::Retraction { row, new_end } => numbers_len(&retracted(row, new_end)),
+        Event::Cti(time) => numbers_len(&[time]),
+    }
+}
+
+// Writes an event from the place `at` on, and tells the place after it.
+pub(crate) fn put_event<P: Payload>(out: &mut [u8], at: usize, event: Event<P>) -> usize
+    requires { at + length (event_bytes (plain_event P.Payload.pair event)) ≤ length out.old }
+    ensures place { result ≡ at + length (event_bytes (plain_event P.Payload.pair event)) }
+    ensures after { out.new ≡ put_all out.old at (event_bytes (plain_event P.Payload.pair event)) }
+    ensures small { Small (numbers_of (plain_event P.Payload.pair event)) }
+{
+    match event {
+        Event::Insert(row) => put_spelled(out, at, EventKind::Insert, &inserted(row)),
+        Event::Retraction { row, new_end } => {
+            put_spelled(out, at, EventKind::Retraction, &retracted(row, new_end))
         }
-    }
-
-    // An event's kind and numbers, the numbers in the order of its fields.
-    pub fn of<P: Payload>(event: &Event<P>) -> Spelling
-        ensures value { spelled result.kind result.count result.numbers ≡ event_bytes (plain_event P.Payload.pair event.now) }
-        ensures small { Small (numbers_of (plain_event P.Payload.pair event.now)) }
-    {
-        match *event {
-            Event::Insert(row) => {
-                let (start, end) = (row.span.start(), row.span.end());
-                let (key, value) = (row.payload.key(), row.payload.value());
-                Spelling::new(INSERT, [row.id, start, end, key, value, 0], 5)
-            }
-            Event::Retraction { row, new_end } => {
-                let (start, end) = (row.span.start(), row.span.end());
-                let (key, value) = (row.payload.key(), row.payload.value());
-                Spelling::new(RETRACTION, [row.id, start, end, new_end, key, value], 6)
-            }
-            Event::Cti(time) => Spelling::new(CTI, [time, 0, 0, 0, 0, 0], 1),
-        }
-    }
-
-    // How many bytes the event takes.
-    pub fn len(&self) -> usize
-        ensures { result ≡ length (spelled self.now.kind self.now.count self.now.numbers) }
-    {
-        1 + numbers_len(&self.numbers[0..self.count])
-    }
-
-    // Writes the event from the place `at` on, and tells the place after it.
-    pub fn put(&self, out: &mut [u8], at: usize) -> usize
-        requires { at + length (spelled self.now.kind self.now.count self.now.numbers) ≤ length out.old }
-        ensures place { result ≡ at + length (spelled self.now.kind self.now.count self.now.numbers) }
-        ensures after { out.new
-            ≡ put_all out.old at (spelled self.now.kind self.now.count self.now.numbers) }
-    {
-        out[at] = self.kind;
-        put_numbers(out, at + 1, &self.numbers[0..self.count])
+        Event::Cti(time) => put_spelled(out, at, EventKind::Cti, &[time]),
     }
 }

@@ -6,7 +6,7 @@ ghost use Rattle.sources.specs.Listing.{listed_stream};
 ghost use Rattle.binary.specs.Writing.{all_timely, AllSmall, file_bytes, written};
 ghost use Rattle.binary.specs.Canonical.{Spells};
 
-use crate::spelling::Spelling;
+use crate::spelling::{event_len, put_event};
 use files::reader::LONGEST;
 use refusals::refusal::Refusal;
 use rows::event::Event;
@@ -27,7 +27,7 @@ fn fit<P: Payload>(events: &[Event<P>], room: usize) -> bool
 {
     let mut left = room;
     for event in events {
-        let len = Spelling::of(event).len();
+        let len = event_len(*event);
         if len > left {
             return false;
         }
@@ -44,7 +44,7 @@ fn put_events<P: Payload>(events: &[Event<P>], out: &mut [u8]) -> usize
 {
     let mut place = 0;
     for event in events {
-        place = Spelling::of(event).put(out, place);
+        place = put_event(out, place, *event);
     }
     place
 }

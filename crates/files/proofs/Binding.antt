@@ -18,9 +18,6 @@ pub bind_parts : {A B : Type 0} (r : Part A) (go : A → List ℕ → Part B) (b
 bind_parts (Ok p) go b rest e = (p.0, p.1, refl, e)
 bind_parts (Err why) go b rest e = absurd (let z : ◌≡◌ {A = ℕ} 0 1 = cc in omega arith)
 
-pub bind_ok : {A B : Type 0} (r : Part A) (go : A → List ℕ → Part B) (a : A) (mid : List ℕ) → r ≡ Ok (a, mid) → bind r go ≡ go a mid
-bind_ok r go a mid e = ap (λ x. bind x go) e
-
 pub ends_more : (a b c : List ℕ) → Ends b a → Ends c b → Ends c a
 ends_more a b c s t =
     let some = s.1 in (

@@ -3,3 +3,4 @@ pub mod Ones
 pub mod Courses
 pub mod Steps
 pub mod Exact
+pub mod ByKind

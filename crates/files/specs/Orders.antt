@@ -3,7 +3,10 @@
 --     head_by number end      id, start and end
 --     pair_by number          key and value
 --     insert_by number end, retraction_by number end, cti_by number     the fields of each kind of event
-use Rattle.std.specs.Prelude.{ℕ, List, Ok, Err}
+--     by_kind insert retraction cti i r c     the byte that tells the kind, i, r or c, and then what that kind is read by; BadByte at
+--                             any other byte, CutOff where there is none
+use Rattle.std.specs.Prelude.{ℕ, cond, List, [], ◌∷◌, Ok, Err, ◌==◌}
+use Rattle.refusals.specs.declared.refusal.Refusal.TheVariants.{CutOff, BadByte}
 use Rattle.refusals.specs.Parts.{Part}
 use Rattle.files.specs.declared.fields.EndField.{EndField}
 use Rattle.files.specs.declared.fields.RowFields.{RowFields}
@@ -35,3 +38,8 @@ retraction_by number end bs =
 
 abbrev pub cti_by : (List ℕ → Part ℕ) → List ℕ → Part Fields
 cti_by number bs = bind (number bs) (λ t xs. Ok (Cti t, xs))
+
+abbrev pub by_kind : (List ℕ → Part Fields) → (List ℕ → Part Fields) → (List ℕ → Part Fields) → ℕ → ℕ → ℕ → List ℕ → Part Fields
+by_kind insert retraction cti i r c [] = Err CutOff
+by_kind insert retraction cti i r c (b ∷ bs) =
+    cond (b == i) (insert bs) (cond (b == r) (retraction bs) (cond (b == c) (cti bs) (Err BadByte)))

@@ -1,2 +1,5 @@
+pub mod Cuts
+pub mod Letters
+pub mod FieldCuts
 pub mod Skips
 pub mod LineCuts

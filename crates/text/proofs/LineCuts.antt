@@ -7,10 +7,12 @@ use Rattle.files.specs.declared.fields.Fields.TheVariants.{Insert, Retraction, C
 use Rattle.refusals.specs.Parts.{Part}
 use Rattle.files.specs.Orders.{bind, Head, head_by, pair_by, row_from, insert_by, retraction_by, cti_by}
 use Rattle.files.proofs.Binding.{ok_parts, bind_parts}
+use Rattle.files.proofs.ByKind.{Kinded, inserted, retracted, timed, kinded}
+use Rattle.text.specs.Ending.{byte_first}
 use Rattle.text.specs.Text.{byte_read, number_read, end_read, closed, text_read}
 use Rattle.text.specs.Lines.{field_at, past, tail, Line, insert_cut, retraction_cut, line_cut, number_in, end_in, fields_in}
-use Rattle.text.specs.Letters.{Lettered, letter_i, letter_r, letter_c, lettered, insert_line, retraction_line, cti_line}
-use Rattle.text.specs.FieldCuts.{Parted, byte_first, number_parted, number_cut, end_parted, end_cut}
+use Rattle.text.proofs.Letters.{insert_line, retraction_line, cti_line}
+use Rattle.text.proofs.FieldCuts.{Parted, number_parted, number_cut, end_parted, end_cut}
 
 pair_cut : (v : ℕ × ℕ) (bs rest : List ℕ) → pair_by number_read bs ≡ Ok (v, rest) → Parted rest →
     (past (past bs) ≡ rest) × (◌≡◌ {A = ℕ × ℕ} (number_in (field_at bs), number_in (field_at (past bs))) v) × Parted bs
@@ -107,23 +109,28 @@ cti_separate f bs rest e =
     let a = number_cut p.0 bs p.1 p.2 (feed_parted p.1 rest last) in
     (ap (λ t. Cti t) a.1 ∙ o.0, ap tail (a.0 ∙ last))
 
+abbrev Lettered : ℕ → List ℕ → List ℕ → Fields → Type 0
+Lettered b bs rest f =
+    Kinded (λ xs. closed (insert_by number_read end_read xs)) (λ xs. closed (retraction_by number_read end_read xs)) (λ xs. closed (cti_by number_read xs))
+    73 82 67 b bs rest f
+
 lettered_separate : (b : ℕ) (bs rest : List ℕ) (f : Fields) → Lettered b bs rest f → (fields_in (line_cut (b ∷ bs)).0 ≡ f) × ((line_cut (b ∷ bs)).1 ≡ rest)
-lettered_separate b bs rest f (letter_i p e) =
+lettered_separate b bs rest f (inserted p e) =
     let l = insert_line b (b ∷ bs) bs refl p in
     let s = insert_separate f bs rest e in
     (ap (λ x. fields_in x.0) l ∙ s.0, ap (λ x. x.1) l ∙ s.1)
-lettered_separate b bs rest f (letter_r p e) =
+lettered_separate b bs rest f (retracted p e) =
     let l = retraction_line b (b ∷ bs) bs refl p in
     let s = retraction_separate f bs rest e in
     (ap (λ x. fields_in x.0) l ∙ s.0, ap (λ x. x.1) l ∙ s.1)
-lettered_separate b bs rest f (letter_c p e) =
+lettered_separate b bs rest f (timed p e) =
     let l = cti_line b (b ∷ bs) bs refl p in
     let s = cti_separate f bs rest e in
     (ap (λ x. fields_in x.0) l ∙ s.0, ap (λ x. x.1) l ∙ s.1)
 
 pub line_separate : (f : Fields) (bs rest : List ℕ) → text_read bs ≡ Ok (f, rest) → (fields_in (line_cut bs).0 ≡ f) × ((line_cut bs).1 ≡ rest)
 line_separate f [] rest e = absurd (let z : ◌≡◌ {A = ℕ} 0 1 = cc in omega arith)
-line_separate f (b ∷ bs) rest e = lettered_separate b bs rest f (lettered b bs rest f e)
+line_separate f (b ∷ bs) rest e = lettered_separate b bs rest f (kinded (λ xs. closed (insert_by number_read end_read xs)) (λ xs. closed (retraction_by number_read end_read xs)) (λ xs. closed (cti_by number_read xs)) 73 82 67 b bs rest f e)
 
 -- a line that has no fault is read as the fields that it is cut into
 pub line_done : (bs : List ℕ) (l : Line) (rest : List ℕ) (f : Fields) → None ≡ result_err (text_read bs) → (l, rest) ≡ line_cut bs → f ≡ fields_in l → Ok (f, rest) ≡ text_read bs

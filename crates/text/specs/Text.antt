@@ -13,7 +13,7 @@ use Rattle.files.specs.declared.fields.EndField.{EndField}
 use Rattle.files.specs.declared.fields.EndField.TheVariants.{At, Forever}
 use Rattle.files.specs.declared.fields.Fields.{Fields}
 use Rattle.refusals.specs.Parts.{Part}
-use Rattle.files.specs.Orders.{bind, insert_by, retraction_by, cti_by}
+use Rattle.files.specs.Orders.{bind, insert_by, retraction_by, cti_by, by_kind}
 
 abbrev pub byte_read : ℕ → List ℕ → Part (Unit {0})
 byte_read b [] = Err CutOff
@@ -33,8 +33,6 @@ abbrev pub closed : Part Fields → Part Fields
 closed r = bind r (λ f rest. bind (byte_read 10 rest) (λ _ more. Ok (f, more)))
 
 abbrev pub text_read : List ℕ → Part Fields
-text_read [] = Err CutOff
-text_read (b ∷ bs) =
-    cond (b == 73) (closed (insert_by number_read end_read bs))
-    (cond (b == 82) (closed (retraction_by number_read end_read bs))
-    (cond (b == 67) (closed (cti_by number_read bs)) (Err BadByte)))
+text_read bs =
+    by_kind (λ xs. closed (insert_by number_read end_read xs)) (λ xs. closed (retraction_by number_read end_read xs)) (λ xs. closed (cti_by number_read xs))
+    73 82 67 bs

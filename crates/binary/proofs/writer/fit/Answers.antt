@@ -6,14 +6,12 @@ use Rattle.binary.proofs.writer.fit.Goals as goal
 pub loop-event-preserved : goal.loop-event-preserved
 loop-event-preserved g c =
     let l = events_len g.P.Payload.pair c.args.events.now c.loop-event.event-index c.event-item.result c.loop-event-test.true c.event-item.is in
-    let m = ap length c.of.ensures.value in
     let n = c.loop-event.invariant in
     omega arith
 
 pub returns-then-len-left : goal.returns-then-len-left
 returns-then-len-left g c =
     let l = events_len g.P.Payload.pair c.args.events.now c.loop-event.event-index c.event-item.result c.loop-event-test.true c.event-item.is in
-    let m = ap length c.of.ensures.value in
     let n = c.loop-event.invariant in
     sym (lt-leb _ c.args.room (omega arith))
 

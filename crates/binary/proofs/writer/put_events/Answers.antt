@@ -3,10 +3,9 @@ use Rattle.groups.specs.Puts.{put_all}
 use Rattle.binary.proofs.Left.{events_len, events_none, put_events_more, small_more, small_all}
 use Rattle.binary.proofs.writer.put_events.Goals as goal
 
-pub put-place-requires : goal.put-place-requires
-put-place-requires g c =
+pub put_event-place-requires : goal.put_event-place-requires
+put_event-place-requires g c =
     let l = events_len g.P.Payload.pair c.args.events.now c.loop-event.event-index c.event-item.result c.loop-event-test.true c.event-item.is in
-    let m = ap length c.of.ensures.value in
     let n = c.loop-event.invariant.0 in
     omega arith
 
@@ -17,10 +16,9 @@ loop-event-preserved g c =
     let i = c.loop-event.event-index in
     let e = c.event-item.result in
     let l = events_len pair es i e c.loop-event-test.true c.event-item.is in
-    let m = ap length c.of.ensures.value in
     let n = c.loop-event.invariant.0 in
     let p = put_events_more pair es i e c.loop-event-test.true c.event-item.is c.loop-event.out c.loop-event.place in
-    (omega arith, cc, small_more pair es i e c.loop-event-test.true c.event-item.is c.loop-event.invariant.2 c.of.ensures.small)
+    (omega arith, cc, small_more pair es i e c.loop-event-test.true c.event-item.is c.loop-event.invariant.2 c.put_event-place.ensures.small)
 
 pub returns : goal.returns
 returns g c =

@@ -1,6 +1,6 @@
 use Rattle.std.proofs.Common.{◌≡◌, ◌<◌, length, get_or, sym, ◌∙◌, rules}
 use Rattle.std.proofs.lemmas.Slice.{first_rest}
-use Rattle.text.specs.Letters.{insert_skip, retraction_skip, cti_skip}
+use Rattle.text.proofs.Letters.{insert_skip, retraction_skip, cti_skip}
 use Rattle.text.proofs.checking.past_line.Goals as goal
 
 pub returns-in-I : goal.returns-in-I

@@ -1,6 +1,6 @@
 use Rattle.std.proofs.Common.{◌≡◌, ℕ, List, take, drop, ◌∙◌, arith}
 use Rattle.text.specs.Lines.{front, back}
-use Rattle.text.specs.Cuts.{parts_not, parts_space, parts_feed, cut_more, cut_stop, cut_end}
+use Rattle.text.proofs.Cuts.{parts_not, parts_space, parts_feed, cut_more, cut_stop, cut_end}
 use Rattle.text.proofs.lexer.cut.Goals as goal
 use Rattle.text.proofs.lexer.cut.Goals.{then-loop-at-test+then-bytes-at-ne32+else-bytes-at-ne10, then-loop-at-test+else-bytes-at-ne32, else-loop-at-test}
 

@@ -1,6 +1,6 @@
 use Rattle.std.proofs.Common.{◌≡◌, ◌<◌, length, get_or, rules}
 use Rattle.std.proofs.lemmas.Slice.{first_rest}
-use Rattle.text.specs.Letters.{insert_line, retraction_line, cti_line}
+use Rattle.text.proofs.Letters.{insert_line, retraction_line, cti_line}
 use Rattle.text.proofs.lexer.line.Goals as goal
 
 pub returns-in-I : goal.returns-in-I

@@ -12,7 +12,8 @@ use Rattle.refusals.specs.Parts.{Part}
 use Rattle.files.proofs.Binding.{ok_parts, bind_parts}
 use Rattle.text.specs.Text.{byte_read, number_read, time_read, end_read}
 use Rattle.text.specs.Lines.{parts, front, back, field_at, past, number_in, star_first, end_in}
-use Rattle.text.specs.Cuts.{parts_not}
+use Rattle.text.specs.Ending.{byte_first}
+use Rattle.text.proofs.Cuts.{parts_not}
 
 -- bs begins with a space or a line feed
 abbrev pub Parted : List ℕ → Type 0
@@ -55,16 +56,6 @@ unless_ok (Some r) p q e = absurd (let z : ◌≡◌ {A = ℕ} 0 1 = cc in omega
 
 decimal_cut : (n : ℕ) (bs rest : List ℕ) → decimal_read bs ≡ Ok (n, rest) → Parted rest → (back bs ≡ rest) × (number_in (front bs) ≡ n)
 decimal_cut n bs rest e p = taken_cut 0 n bs rest (unless_ok (decimal_fault bs) (taken 0 bs) (n, rest) e) p
-
-pub byte_first : (b : ℕ) (u : Unit {0}) (bs rest : List ℕ) → byte_read b bs ≡ Ok (u, rest) → bs ≡ b ∷ rest
-byte_first b u [] rest e = absurd (let z : ◌≡◌ {A = ℕ} 0 1 = cc in omega arith)
-byte_first b u (x ∷ xs) rest e =
-    elim (cases_eq x b) [
-      | inl p ↦ let o = ok_parts tt u xs rest (sym (cond-true (x == b) _ _ (eq-eqb x b p)) ∙ e) in ap (λ y. y ∷ xs) p ∙ ap (λ zs. b ∷ zs) o.1
-      | inr p ↦
-          let f : ◌≡◌ {A = Part (Unit {0})} (Err BadByte) (Ok (u, rest)) = sym (cond-false (x == b) _ _ (ne_eqb x b p)) ∙ e in
-          absurd (let z : ◌≡◌ {A = ℕ} 0 1 = cc in omega arith)
-    ]
 
 pub number_parted : (n : ℕ) (bs rest : List ℕ) → number_read bs ≡ Ok (n, rest) → Parted bs
 number_parted n bs rest e =
