@@ -12,9 +12,9 @@ use refusals::refusal::Refusal;
 pub trait Form: Copy {
     ghost read: { Reads };
 
+    ghost ends: { (bs rest : List ℕ) (f : Held) → read bs ≡ Ok (f, rest) → Ends rest bs };
+
     // The fields of the event that the bytes begin with and the bytes after it; else CutOff, BadByte or BadNumber.
     fn fields(bytes: &[u8]) -> Result<(Fields, &[u8]), Refusal>
         ensures { told result ≡ read bytes.now };
-
-    ghost ends: { (bs rest : List ℕ) (f : Held) → read bs ≡ Ok (f, rest) → Ends rest bs };
 }

@@ -1,5 +1,7 @@
 // Judging an event's fields: the payload first, then the times.
-ghost use Rattle.std.specs.Prelude.{◌≡◌};
+ghost use Rattle.std.specs.Prelude.{◌≡◌, if◌then◌else◌, Ok, Err};
+ghost use Rattle.refusals.specs.declared.refusal.Refusal.TheVariants.{BadTime};
+ghost use Rattle.rows.specs.Times.{finite};
 ghost use Rattle.rows.specs.Rows.{made_row};
 ghost use Rattle.rows.specs.Spans.{made_span};
 ghost use Rattle.files.specs.Judging.{end_judged, span_judged, row_judged, judged, judged_as};
@@ -12,18 +14,23 @@ use rows::row::Row;
 use rows::span::times::is_finite;
 use rows::span::{FOREVER, Span};
 
+// The time, or BadTime where it is past the last finite one.
+fn finite(time: u32) -> Result<u32, Refusal>
+    ensures { result ≡ (if finite time then Ok time else Err BadTime) }
+{
+    if is_finite(time) {
+        Ok(time)
+    } else {
+        Err(Refusal::BadTime)
+    }
+}
+
 // The time that an end field means, or BadTime: only FOREVER itself is more than the last finite time.
 fn end_of(end: EndField) -> Result<u32, Refusal>
     ensures { result ≡ end_judged end }
 {
     match end {
-        EndField::At(time) => {
-            if is_finite(time) {
-                Ok(time)
-            } else {
-                Err(Refusal::BadTime)
-            }
-        }
+        EndField::At(time) => finite(time),
         EndField::Forever => Ok(FOREVER),
     }
 }
@@ -65,12 +72,6 @@ pub fn event_of<P: Payload>(fields: Fields) -> Result<Event<P>, Refusal>
                 Err(Refusal::BadTime)
             }
         }
-        Fields::Cti(time) => {
-            if is_finite(time) {
-                Ok(Event::Cti(time))
-            } else {
-                Err(Refusal::BadTime)
-            }
-        }
+        Fields::Cti(time) => Ok(Event::Cti(finite(time)?)),
     }
 }

@@ -1,36 +1,41 @@
--- Cutting bytes at the first space or line feed, one byte at a time. Assumes nothing.
-use Rattle.std.specs.Prelude.{◌≡◌, ℕ, ◌+◌, ◌<◌, ◌≤◌, true, false, List, [], ◌∷◌, ◌++◌, length, take, drop, ◌==◌, ◌≢◌, slice_index}
-use Rattle.std.proofs.Common.{sym, ap, ◌∙◌}
-use Rattle.std.proofs.lemmas.List.{at_drop_more, at_drop_all, drop_more, drop_all, take_more, append_assoc, append-nil}
-use Rattle.std.proofs.lemmas.Bool.{cond-true, cond-false, ne_eqb, eq-eqb, or_from, or_left, or_right}
+-- Where bytes are cut: at the first space or line feed. Assumes nothing.
+use Rattle.std.proofs.Common.{◌≡◌, ◌≢◌, ℕ, suc, ◌+◌, Bool, true, false, cond, not, eqb, List, [], ◌∷◌, length, take, drop, refl, ap, ◌∙◌, inl, inr, arith}
+use Rattle.std.specs.List.{position, position_or_len}
+use Rattle.std.specs.Option.{unwrap_or}
+use Rattle.std.proofs.lemmas.List.Sums.{prefix_len-le-length}
+use Rattle.std.proofs.lemmas.Bool.{cases_lt, cond-true, cond-false, lt-ltb, le-ltb, ne_eqb, or_from}
 use Rattle.text.specs.Lines.{parts, front, back}
 
 pub parts_not : (b : ℕ) → (b ≢ 32) → (b ≢ 10) → parts b ≡ false
-parts_not b p q = or_from (b == 32) (b == 10) (ne_eqb b 32 p) (ne_eqb b 10 q)
+parts_not b p q = or_from (eqb b 32) (eqb b 10) (ne_eqb b 32 p) (ne_eqb b 10 q)
 
-pub parts_space : (b : ℕ) → b ≡ 32 → parts b ≡ true
-parts_space b e = or_left (b == 32) (b == 10) (eq-eqb b 32 e)
+-- the first place that parts, or the end
+place_is : (xs : List ℕ) → unwrap_or (position parts xs) (length xs) ≡ position_or_len parts xs
+place_is xs =
+    let within = prefix_len-le-length (λ x. not (parts x)) xs in
+    elim (cases_lt (position_or_len parts xs) (length xs)) [
+      | inl h ↦ ap (λ o. unwrap_or o (length xs)) (cond-true _ _ _ (lt-ltb _ _ h))
+      | inr h ↦ let e : length xs ≡ position_or_len parts xs = omega arith in ap (λ o. unwrap_or o (length xs)) (cond-false _ _ _ (le-ltb _ _ h)) ∙ e
+    ]
 
-pub parts_feed : (b : ℕ) → b ≡ 10 → parts b ≡ true
-parts_feed b e = or_right (b == 32) (b == 10) (eq-eqb b 10 e)
+front_more : (b : Bool) (x n : ℕ) (xs ys : List ℕ) → take n xs ≡ ys → take (cond (not b) (1 + n) 0) (x ∷ xs) ≡ cond b [] (x ∷ ys)
+front_more true x n xs ys e = refl
+front_more false x n xs ys e = let k : 1 + n ≡ suc n = omega arith in ap (λ m. take m (x ∷ xs)) k ∙ ap (λ zs. x ∷ zs) e
 
--- the cut of xs is looked for from the place i on
-module _ (xs : List ℕ) (i : ℕ) (f : front xs ≡ take i xs ++ front (drop i xs)) (b : back xs ≡ back (drop i xs)) where
-  pub cut_more : i < length xs → parts (slice_index xs i) ≡ false → (front xs ≡ take (i + 1) xs ++ front (drop (i + 1) xs)) × (back xs ≡ back (drop (i + 1) xs))
-  cut_more h p =
-      let f' : front (drop i xs) ≡ slice_index xs i ∷ front (drop (i + 1) xs) = at_drop_more front xs i 0 h ∙ cond-false _ _ _ p in
-      let b' : back (drop i xs) ≡ back (drop (i + 1) xs) = at_drop_more back xs i 0 h ∙ cond-false _ _ _ p in
-      let t = take_more xs i 0 h in (
-        f ∙ ap (λ zs. take i xs ++ zs) f'
-            ∙ sym (ap (λ zs. zs ++ front (drop (i + 1) xs)) t ∙ append_assoc (take i xs) (slice_index xs i ∷ []) (front (drop (i + 1) xs))),
-        b ∙ b',
-      )
+back_more : (b : Bool) (x n : ℕ) (xs ys : List ℕ) → drop n xs ≡ ys → drop (cond (not b) (1 + n) 0) (x ∷ xs) ≡ cond b (x ∷ xs) ys
+back_more true x n xs ys e = refl
+back_more false x n xs ys e = let k : 1 + n ≡ suc n = omega arith in ap (λ m. drop m (x ∷ xs)) k ∙ e
 
-  pub cut_stop : i < length xs → parts (slice_index xs i) ≡ true → (take i xs ≡ front xs) × (drop i xs ≡ back xs)
-  cut_stop h p =
-      let f' : front (drop i xs) ≡ [] = at_drop_more front xs i 0 h ∙ cond-true _ _ _ p in
-      let b' : back (drop i xs) ≡ drop i xs = at_drop_more back xs i 0 h ∙ cond-true _ _ _ p ∙ sym (drop_more xs i 0 h) in
-      (sym (f ∙ ap (λ zs. take i xs ++ zs) f' ∙ append-nil _), sym (b ∙ b'))
+front_at : (xs : List ℕ) → take (position_or_len parts xs) xs ≡ front xs
+front_at [] = refl
+front_at (x ∷ xs) = front_more (parts x) x (position_or_len parts xs) xs (front xs) (front_at xs)
 
-  pub cut_end : length xs ≤ i → (take i xs ≡ front xs) × (drop i xs ≡ back xs)
-  cut_end h = (sym (f ∙ ap (λ zs. take i xs ++ zs) (at_drop_all front xs i h) ∙ append-nil _), drop_all i xs h ∙ sym (b ∙ at_drop_all back xs i h))
+back_at : (xs : List ℕ) → drop (position_or_len parts xs) xs ≡ back xs
+back_at [] = refl
+back_at (x ∷ xs) = back_more (parts x) x (position_or_len parts xs) xs (back xs) (back_at xs)
+
+pub front_cut : (xs : List ℕ) → take (unwrap_or (position parts xs) (length xs)) xs ≡ front xs
+front_cut xs = ap (λ n. take n xs) (place_is xs) ∙ front_at xs
+
+pub back_cut : (xs : List ℕ) → drop (unwrap_or (position parts xs) (length xs)) xs ≡ back xs
+back_cut xs = ap (λ n. drop n xs) (place_is xs) ∙ back_at xs

@@ -1,14 +1,12 @@
 -- A field that is read is the field that the line has at its place. Assumes nothing.
-use Rattle.std.specs.Prelude.{◌≡◌, ℕ, true, false, ◌&&◌, List, [], ◌∷◌, Some, None, Ok, Err, Option, ◌==◌, ◌≢◌, nat_le, refl}
+use Rattle.std.specs.Prelude.{◌≡◌, ℕ, true, false, ◌&&◌, List, [], ◌∷◌, Some, None, Ok, Option, ◌==◌, ◌≢◌, nat_le, refl}
 use Rattle.std.proofs.Common.{sym, ap, ◌∙◌, inl, inr, arith}
-use Rattle.std.proofs.lemmas.Bool.{cases_Bool, cases_eq, cond-true, cond-false, and_parts, leb-true, eq-eqb, ne_eqb}
+use Rattle.std.proofs.lemmas.Bool.{cases_Bool, cases_eq, cond-true, cond-false, and_parts, leb-true, ne_eqb}
 use Rattle.decimals.specs.Decimals.{digit, push, taken, decimal_fault, unless, decimal_read}
 use Rattle.decimals.proofs.Taking.{taken_more}
 use Rattle.refusals.specs.declared.refusal.Refusal.{Refusal}
-use Rattle.refusals.specs.declared.refusal.Refusal.TheVariants.{BadByte}
 use Rattle.files.specs.declared.fields.EndField.{EndField}
 use Rattle.files.specs.declared.fields.EndField.TheVariants.{At, Forever}
-use Rattle.refusals.specs.Parts.{Part}
 use Rattle.files.proofs.Binding.{ok_parts, bind_parts}
 use Rattle.text.specs.Text.{byte_read, number_read, time_read, end_read}
 use Rattle.text.specs.Lines.{parts, front, back, field_at, past, number_in, star_first, end_in}

@@ -1,5 +1,4 @@
 pub mod Cuts
-pub mod Letters
 pub mod FieldCuts
 pub mod Skips
 pub mod LineCuts

@@ -10,8 +10,7 @@ use Rattle.files.proofs.Binding.{ok_parts, bind_parts}
 use Rattle.files.proofs.ByKind.{Kinded, inserted, retracted, timed, kinded}
 use Rattle.text.specs.Ending.{byte_first}
 use Rattle.text.specs.Text.{byte_read, number_read, end_read, closed, text_read}
-use Rattle.text.specs.Lines.{field_at, past, tail, Line, insert_cut, retraction_cut, line_cut, number_in, end_in, fields_in}
-use Rattle.text.proofs.Letters.{insert_line, retraction_line, cti_line}
+use Rattle.text.specs.Lines.{field_at, past, tail, Line, cti, insert_cut, retraction_cut, line_cut, number_in, end_in, fields_in}
 use Rattle.text.proofs.FieldCuts.{Parted, number_parted, number_cut, end_parted, end_cut}
 
 pair_cut : (v : ℕ × ℕ) (bs rest : List ℕ) → pair_by number_read bs ≡ Ok (v, rest) → Parted rest →
@@ -116,15 +115,15 @@ Lettered b bs rest f =
 
 lettered_separate : (b : ℕ) (bs rest : List ℕ) (f : Fields) → Lettered b bs rest f → (fields_in (line_cut (b ∷ bs)).0 ≡ f) × ((line_cut (b ∷ bs)).1 ≡ rest)
 lettered_separate b bs rest f (inserted p e) =
-    let l = insert_line b (b ∷ bs) bs refl p in
+    let l : line_cut (b ∷ bs) ≡ insert_cut bs = ap (λ x. line_cut (x ∷ bs)) p in
     let s = insert_separate f bs rest e in
     (ap (λ x. fields_in x.0) l ∙ s.0, ap (λ x. x.1) l ∙ s.1)
 lettered_separate b bs rest f (retracted p e) =
-    let l = retraction_line b (b ∷ bs) bs refl p in
+    let l : line_cut (b ∷ bs) ≡ retraction_cut bs = ap (λ x. line_cut (x ∷ bs)) p in
     let s = retraction_separate f bs rest e in
     (ap (λ x. fields_in x.0) l ∙ s.0, ap (λ x. x.1) l ∙ s.1)
 lettered_separate b bs rest f (timed p e) =
-    let l = cti_line b (b ∷ bs) bs refl p in
+    let l : line_cut (b ∷ bs) ≡ (cti (field_at bs), tail (past bs)) = ap (λ x. line_cut (x ∷ bs)) p in
     let s = cti_separate f bs rest e in
     (ap (λ x. fields_in x.0) l ∙ s.0, ap (λ x. x.1) l ∙ s.1)
 

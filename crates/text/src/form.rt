@@ -1,5 +1,6 @@
 // Reading the fields of an event in text.
 ghost use Rattle.std.specs.Prelude.{◌≡◌};
+ghost use Rattle.files.specs.Orders.{row_from};
 ghost use Rattle.text.specs.Lines.{end_in, number_in, line_of, fields_in};
 ghost use Rattle.text.specs.Text.{text_read};
 ghost use Rattle.text.specs.Ending.{text_ends};
@@ -28,6 +29,18 @@ fn end(field: &[u8]) -> EndField
     }
 }
 
+fn row_fields(id: &[u8], start: &[u8], until: &[u8], key: &[u8], value: &[u8]) -> RowFields
+    ensures { result ≡ row_from (number_in id.now, number_in start.now, end_in until.now) (number_in key.now, number_in value.now) }
+{
+    RowFields {
+        id: number(id),
+        start: number(start),
+        end: end(until),
+        key: number(key),
+        value: number(value),
+    }
+}
+
 fn fields_of(text: TextLine) -> Fields
     ensures { result ≡ fields_in (line_of text.entry) }
 {
@@ -35,18 +48,10 @@ fn fields_of(text: TextLine) -> Fields
         TextLine::Insert {
             id,
             start,
-            end: until,
+            end,
             key,
             value,
-        } => {
-            Fields::Insert(RowFields {
-                id: number(id),
-                start: number(start),
-                end: end(until),
-                key: number(key),
-                value: number(value),
-            })
-        }
+        } => Fields::Insert(row_fields(id, start, end, key, value)),
         TextLine::Retraction {
             id,
             start,
@@ -54,19 +59,10 @@ fn fields_of(text: TextLine) -> Fields
             new_end,
             key,
             value,
-        } => {
-            let row = RowFields {
-                id: number(id),
-                start: number(start),
-                end: end(until),
-                key: number(key),
-                value: number(value),
-            };
-            Fields::Retraction {
-                row,
-                new_end: end(new_end),
-            }
-        }
+        } => Fields::Retraction {
+            row: row_fields(id, start, until, key, value),
+            new_end: end(new_end),
+        },
         TextLine::Cti { time } => Fields::Cti(number(time)),
     }
 }

@@ -1,6 +1,6 @@
 // Text lines, told as one of three kinds, with their fields as parts of the text.
-ghost use Rattle.std.specs.Prelude.{◌≡◌};
-ghost use Rattle.text.specs.Lines.{front, back, field_at, past, tail, line_as, line_cut};
+ghost use Rattle.std.specs.Prelude.{◌≡◌, position};
+ghost use Rattle.text.specs.Lines.{parts, front, back, field_at, past, tail, line_as, line_cut};
 
 // A line's fields.
 #[derive(Clone, Copy, Debug)]
@@ -25,15 +25,26 @@ pub enum TextLine<'a> {
     },
 }
 
+// Whether a byte parts fields: a space or a line feed.
+fn parts(b: u8) -> bool
+    ensures { result ≡ parts b }
+{
+    matches!(b, b' ' | b'\n')
+}
+
+// The first place that parts fields.
+fn part_place(bytes: &[u8]) -> Option<usize>
+    ensures { result ≡ position parts bytes.now }
+{
+    bytes.iter().position(|b| parts(*b))
+}
+
 // The bytes before the first space or line feed, and those from it on.
 fn cut(bytes: &[u8]) -> (&[u8], &[u8])
     ensures front { result.0.now ≡ front bytes.now }
     ensures back { result.1.now ≡ back bytes.now }
 {
-    let mut at = 0;
-    while at < bytes.len() && bytes[at] != b' ' && bytes[at] != b'\n' {
-        at += 1;
-    }
+    let at = part_place(bytes).unwrap_or(bytes.len());
     bytes.split_at(at)
 }
 

@@ -6,7 +6,7 @@ pub overflow_sub-self : goal.overflow_sub-self
 overflow_sub-self g c =
     let s = c.args.self.now in
     let left = c.in-Reading-Some.ensures in
-    (next_place g.F.Form.read g.met.F.Form.ends g.P.Payload.kind s.bytes.now s.place s.number s.state c.in-Reading-Some.is-0 s.within
+    (next_place g.F.Form.read g.F.Form.ends g.P.Payload.kind s.bytes.now s.place s.number s.state c.in-Reading-Some.is-0 s.within
     left.0 c.in-Reading-Some.left.now left.1 _ _ c.in-Ok.ensures).0
 
 pub invariant_of-self : goal.invariant_of-self
@@ -14,7 +14,7 @@ invariant_of-self g c =
     let s = c.args.self.now in
     let left = c.in-Reading-Some.ensures in
     let p =
-    next_place g.F.Form.read g.met.F.Form.ends g.P.Payload.kind s.bytes.now s.place s.number s.state c.in-Reading-Some.is-0 s.within
+    next_place g.F.Form.read g.F.Form.ends g.P.Payload.kind s.bytes.now s.place s.number s.state c.in-Reading-Some.is-0 s.within
     left.0 c.in-Reading-Some.left.now left.1 _ _ c.in-Ok.ensures in
     let few = s.few in
     record { short = s.short; within = omega arith; few = omega (arith, p.1) }
@@ -25,10 +25,10 @@ returns-in-Ok g c =
     let left = c.in-Reading-Some.ensures in
     record {
       value =
-          next_value g.F.Form.read g.met.F.Form.ends g.P.Payload.kind s.bytes.now s.place s.number s.state c.in-Reading-Some.is-0 s.within
+          next_value g.F.Form.read g.F.Form.ends g.P.Payload.kind s.bytes.now s.place s.number s.state c.in-Reading-Some.is-0 s.within
           left.0 c.in-Reading-Some.left.now left.1 _ _ c.in-Ok.ensures;
       after =
-          next_after g.F.Form.read g.met.F.Form.ends g.P.Payload.kind s.bytes.now s.place s.number s.state c.in-Reading-Some.is-0 s.within
+          next_after g.F.Form.read g.F.Form.ends g.P.Payload.kind s.bytes.now s.place s.number s.state c.in-Reading-Some.is-0 s.within
           left.0 c.in-Reading-Some.left.now left.1 _ _ c.in-Ok.ensures;
     }
 
@@ -38,10 +38,10 @@ returns-in-Err g c =
     let left = c.in-Reading-Some.ensures in
     record {
       value =
-          fault_value g.F.Form.read g.met.F.Form.ends g.P.Payload.kind s.bytes.now s.place s.number s.state c.in-Reading-Some.is-0 s.within
+          fault_value g.F.Form.read g.F.Form.ends g.P.Payload.kind s.bytes.now s.place s.number s.state c.in-Reading-Some.is-0 s.within
           left.0 c.in-Reading-Some.left.now left.1 _ c.in-Err.ensures _ c.at_event-fault.ensures;
       after =
-          fault_after g.F.Form.read g.met.F.Form.ends g.P.Payload.kind s.bytes.now s.place s.number s.state c.in-Reading-Some.is-0 s.within
+          fault_after g.F.Form.read g.F.Form.ends g.P.Payload.kind s.bytes.now s.place s.number s.state c.in-Reading-Some.is-0 s.within
           left.0 c.in-Reading-Some.left.now left.1 _ c.in-Err.ensures _ c.at_event-fault.ensures;
     }
 
@@ -50,9 +50,9 @@ returns-in-Reading-None g c =
     let s = c.args.self.now in
     record {
       value =
-          end_value g.F.Form.read g.met.F.Form.ends g.P.Payload.kind s.bytes.now s.place s.number s.state c.in-Reading-None.is-0 s.within
+          end_value g.F.Form.read g.F.Form.ends g.P.Payload.kind s.bytes.now s.place s.number s.state c.in-Reading-None.is-0 s.within
           c.in-Reading-None.ensures;
       after =
-          end_after g.F.Form.read g.met.F.Form.ends g.P.Payload.kind s.bytes.now s.place s.number s.state c.in-Reading-None.is-0 s.within
+          end_after g.F.Form.read g.F.Form.ends g.P.Payload.kind s.bytes.now s.place s.number s.state c.in-Reading-None.is-0 s.within
           c.in-Reading-None.ensures;
     }
