@@ -7,8 +7,9 @@ use std::marker::PhantomData;
 
 pub mod kind;
 
-// A kind of payload, told by its greatest value and by what least and most are for a key and a value in range.
-pub trait Measure {
+// A kind of payload, told by its greatest value and by what least and most are for a key and a value in range. A measured
+// value has them in range by its type, so a measure asks nothing of its caller.
+pub trait Measure: Sized {
     ghost kind: { Kind };
 
     ghost topped: { kind.top ≤ 65535 };
@@ -19,22 +20,20 @@ pub trait Measure {
     fn top() -> u32
         ensures { result ≡ kind.top };
 
-    // What a value stands for is at least this.
-    fn least(key: u32, value: u32) -> u32
-        requires { in_range kind key value ≡ true }
-        ensures { result ≡ kind.least key value };
+    // What a measured value stands for is at least this.
+    fn least(measured: &Measured<Self>) -> u32
+        ensures { result ≡ kind.least measured.now.key measured.now.value };
 
-    // What a value stands for is at most this, or UNLIMITED.
-    fn most(key: u32, value: u32) -> u32
-        requires { in_range kind key value ≡ true }
-        ensures { result ≡ kind.most key value };
+    // What a measured value stands for is at most this, or UNLIMITED.
+    fn most(measured: &Measured<Self>) -> u32
+        ensures { result ≡ kind.most measured.now.key measured.now.value };
 }
 
 // The key is that of a locker, and the value is at most the measure's greatest.
 #[derive_where(PartialEq, Eq, Debug)]
 pub struct Measured<M: Measure> {
-    key: u32,
-    value: u32,
+    pub(crate) key: u32,
+    pub(crate) value: u32,
     measure: PhantomData<M>,
     ghost locker: { key ≤ 9999 },
     ghost bounded: { value ≤ M.kind.top },

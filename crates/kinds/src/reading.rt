@@ -22,14 +22,14 @@ impl Measure for Grams {
         LAST_COUNT
     }
 
-    fn least(_key: u32, count: u32) -> u32 {
-        grams_of(count).unwrap()
+    fn least(reading: &Reading) -> u32 {
+        grams_of(reading.value).unwrap()
     }
 
     // A reading at the last count is clipped: the weight may be any above.
-    fn most(key: u32, count: u32) -> u32 {
-        if count < LAST_COUNT {
-            Grams::least(key, count)
+    fn most(reading: &Reading) -> u32 {
+        if reading.value < LAST_COUNT {
+            Grams::least(reading)
         } else {
             UNLIMITED
         }

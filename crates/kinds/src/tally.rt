@@ -22,12 +22,12 @@ impl Measure for Pieces {
         LAST_PIECE
     }
 
-    fn least(_key: u32, pieces: u32) -> u32 {
-        pieces
+    fn least(tally: &Tally) -> u32 {
+        tally.value
     }
 
-    fn most(_key: u32, pieces: u32) -> u32 {
-        pieces
+    fn most(tally: &Tally) -> u32 {
+        Pieces::least(tally)
     }
 }
 

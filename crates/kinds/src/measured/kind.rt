@@ -32,11 +32,11 @@ impl<M: Measure> Payload for Measured<M> {
     }
 
     fn least(&self) -> u32 {
-        M::least(self.key, self.value)
+        M::least(self)
     }
 
     fn most(&self) -> u32 {
-        M::most(self.key, self.value)
+        M::most(self)
     }
 
     fn make(key: u32, value: u32) -> Result<Measured<M>, Refusal> {
