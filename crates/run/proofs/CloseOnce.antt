@@ -1,35 +1,25 @@
 -- One closing of a run: what it wrote is what the model writes, and it is refused for what the model refuses.
 use Rattle.std.proofs.Common.{◌≡◌, ℕ, zero, suc, ◌+◌, ◌-◌, ◌<◌, ◌≤◌, Bool, true, false, cond, leb, List, [], ◌∷◌, ◌++◌, length, take, drop, set, Some, None, Option, Ok, Err, Result, sym, refl, ap, ◌∙◌, arith, length-append, take-add}
-use Rattle.std.proofs.lemmas.List.{take_more_set, length-take-le, length-drop}
-use Rattle.std.proofs.lemmas.Slice.{between_to_end}
+use Rattle.std.proofs.lemmas.List.{take_more_set, length-take-le}
 use Rattle.std.proofs.lemmas.Bool.{cond-true, cond-false, le-leb, lt-leb, leb-true, leb-false}
-use Rattle.std.specs.List.{between}
 use Rattle.refusals.specs.declared.fault.Fault.{Fault}
 use Rattle.refusals.specs.declared.refusal.Refusal.{Refusal}
-use Rattle.refusals.specs.declared.refusal.Refusal.TheVariants.{WindowsFull, LinesFull}
+use Rattle.refusals.specs.declared.refusal.Refusal.TheVariants.{LinesFull}
 use Rattle.refusals.specs.Faults.{bare_fault}
 use Rattle.receipts.specs.declared.line.Line.{Line}
 use Rattle.receipts.specs.declared.window.Window.{Window}
 use Rattle.receipts.specs.Histories.{Entry}
 use Rattle.receipts.specs.Queries.{Setup, QueryState, may_close, closing_lines, closing_window, closed_once, closed, refused, Called, keeps, closing, called}
 use Rattle.receipts.specs.Sides.{Both}
-use Rattle.query.specs.Answers.{answers, closing_told}
+use Rattle.query.specs.Answers.{answers}
 use Rattle.run_laws.specs.Runs.{Places, RunState, goes_on, stops, closed_in, closings}
 use Rattle.run.specs.States.{places, standing}
 use Rattle.run.specs.Closings.{closing_told_from}
-
--- the lines of a closing that wrote from the place n on stand from there
-pub told_from : (n : ℕ) (r : Result Window Fault) (ls part : List Line) → drop n ls ≡ part → closing_told_from n r ls ≡ closing_told r part
-told_from n (Ok w) ls part e = ap (λ xs. closed w (take w.lines xs)) e
-told_from n (Err f) ls part e = refl
 
 -- what a closing was refused for
 abbrev pub refusal_of : Result Window Fault → Option Refusal
 refusal_of (Ok w) = None
 refusal_of (Err f) = Some f.refusal
-
-pub part_size : {X : Type 0} (n : ℕ) (xs : List X) → length (between n (length xs) xs) ≡ length xs - n
-part_size n xs = ap length (between_to_end xs n (length xs) (omega arith)) ∙ length-drop n xs
 
 -- What an answer says of a closing that is allowed, by whether there is room for its lines.
 closed_by : (room : Bool) (s : Setup) (q q' : QueryState) (v : Window) (xs : List Line) →
@@ -70,7 +60,7 @@ module _ (s : Setup) (q : QueryState) (ls : List Line) (ws : List Window) (n m :
       line_count : v.lines ≡ length sought
       line_count = ap (λ (w : Window). w.lines) parts.1
 
-      pub lines_within : n + v.lines ≤ length ls
+      lines_within : n + v.lines ≤ length ls
       lines_within = omega (arith, line_count, leb-true (length sought) (length ls - n) parts.0)
 
       lines_follow : take (n + v.lines) ls' ≡ take n ls ++ sought
@@ -119,14 +109,6 @@ module _ (s : Setup) (q : QueryState) (ls : List Line) (ws : List Window) (n m :
     lines_full (Err f) w is told free rest over blame =
         let same : w ≡ f.refusal = cc in
         ap (λ z. stops (standing q' rest over ls' ws (record { lines = n; windows = m })) (blame z)) same ∙ told_full f told free rest over blame
-
-  pub windows_full : length ws ≤ m → (rest : Both (List Entry)) (over : Both Bool) (blame : Refusal → Fault) →
-      stops (standing q rest over ls ws (record { lines = n; windows = m })) (blame WindowsFull)
-      ≡ closings s (places ls ws) blame (length ws - m) (standing q rest over ls ws (record { lines = n; windows = m }))
-  windows_full full rest over blame =
-      let none : length ws - m ≡ 0 = omega (arith, full) in
-      sym (ap (λ k. closings s (places ls ws) blame k (standing q rest over ls ws (record { lines = n; windows = m }))) none
-      ∙ cond-true (may_close s q) _ _ may)
 
 -- where no closing is allowed, there is none
 pub closings_none : (s : Setup) (p : Places) (blame : Refusal → Fault) (n : ℕ) (x : RunState) → may_close s x.query ≡ false →

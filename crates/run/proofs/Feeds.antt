@@ -22,6 +22,7 @@ use Rattle.rewriting.specs.Streams.{Stream}
 use Rattle.query.specs.Answers.{answers}
 use Rattle.run_laws.specs.Runs.{Places, RunState, Report, Turn, goes_on, stops, closings, run_fault, located, with_side, heard, outcome, over_on, ended, take_from, report, continued}
 use Rattle.sources.specs.Taking.{first_of, behind, rest_of}
+use Rattle.run.specs.declared.feeding.Place.{Place}
 use Rattle.run.specs.declared.feeding.Step.{Step}
 use Rattle.run.specs.declared.feeding.Step.TheVariants as step
 use Rattle.run.specs.Steps.{at, told_on, next_by, next_on, answered, is_cti, ending_step, answer_step, Fed, fed, stepped_by, stepped}
@@ -31,13 +32,13 @@ abbrev pub after_step : Setup → Places → Side → RunState → Result Step F
 after_step s p side x (Err f) = stops x f
 after_step s p side x (Ok step.Ended) = goes_on (over_on side x)
 after_step s p side x (Ok step.Accepted) = goes_on x
-after_step s p side x (Ok (step.Advanced depth n)) = closings s p (run_fault side depth n) (p.windows - length x.windows) x
+after_step s p side x (Ok (step.Advanced y)) = closings s p (run_fault side y.depth y.number) (p.windows - length x.windows) x
 
 abbrev pub Brings : Result Step Fault → List Entry → Type 0
 Brings (Err f) es = Unit {0}
 Brings (Ok step.Ended) es = es ≡ []
 Brings (Ok step.Accepted) es = length (behind es) + 1 ≡ length es
-Brings (Ok (step.Advanced depth n)) es = length (behind es) + 1 ≡ length es
+Brings (Ok (step.Advanced y)) es = length (behind es) + 1 ≡ length es
 
 -- a refused event changes nothing
 refused_keeps : (s : Setup) (q : QueryState) (side : Side) (e : PlainEvent) →
@@ -58,7 +59,7 @@ module _ (s : Setup) (p : Places) (side : Side) (srcs : Both Stream) (x : RunSta
   -- by the side's answer to the event
   answered_turn : (depth n : ℕ) (e : PlainEvent) (es : List Entry) (a : Result (Unit {0}) Refusal) (h : Half) →
       (accepts (event_answer side half a) ≡ false → holding h ≡ x.query) →
-      continued (after_step s p side (after (holding h) es) (answer_step depth n (is_cti e) (event_answer side half a))) go
+      continued (after_step s p side (after (holding h) es) (answer_step (record { depth = depth; number = n }) (is_cti e) (event_answer side half a))) go
       ≡ continued (heard s p side depth (n, e) half x (with_side side h es x) a) go
   answered_turn depth n (insert r) es (Ok u) h keeps = refl
   answered_turn depth n (retraction r t) es (Ok u) h keeps = refl
@@ -84,12 +85,12 @@ module _ (s : Setup) (p : Places) (side : Side) (srcs : Both Stream) (x : RunSta
       let o : Outcome Half = outcome s x side e.1 in
       answered_turn (pick side srcs).depth e.0 e.1 es o.answer o.after (refused_keeps s x.query side e.1)
 
-answer_brings : (depth n : ℕ) (c : Bool) (a : Answer) (e : Entry) (es : List Entry) → Brings (answer_step depth n c a) (e ∷ es)
-answer_brings depth n true accepted e es = add-one (length es)
-answer_brings depth n false accepted e es = add-one (length es)
-answer_brings depth n c (closed w ls) e es = add-one (length es)
-answer_brings depth n c (told x) e es = add-one (length es)
-answer_brings depth n c (refused f) e es = tt
+answer_brings : (y : Place) (c : Bool) (a : Answer) (e : Entry) (es : List Entry) → Brings (answer_step y c a) (e ∷ es)
+answer_brings y true accepted e es = add-one (length es)
+answer_brings y false accepted e es = add-one (length es)
+answer_brings y c (closed w ls) e es = add-one (length es)
+answer_brings y c (told x) e es = add-one (length es)
+answer_brings y c (refused f) e es = tt
 
 ending_brings : (side : Side) (w : Ending) → Brings (ending_step (told_on side w)) []
 ending_brings side (Ok tt) = refl
@@ -97,7 +98,7 @@ ending_brings side (Err f) = tt
 
 step_brings : (s : Setup) (q : QueryState) (side : Side) (depth : ℕ) (w : Ending) (es : List Entry) → Brings (stepped_by s q side (next_by side depth (first_of es w))).step es
 step_brings s q side depth w [] = ending_brings side w
-step_brings s q side depth w (e ∷ es) = answer_brings depth e.0 (is_cti e.1) (called s q (event side e.1)).answer e es
+step_brings s q side depth w (e ∷ es) = answer_brings (record { depth = depth; number = e.0 }) (is_cti e.1) (called s q (event side e.1)).answer e es
 
 pub pick_entries : (side : Side) (srcs : Both Stream) → pick side (entries_of srcs) ≡ (pick side (shallows srcs)).entries
 pick_entries Left srcs = refl
@@ -109,15 +110,15 @@ put_entries Left srcs = refl
 put_entries Right srcs = refl
 
 -- a side that is chosen heard its event, and the query answered it
-pub heard_step : (s : Setup) (q q' : QueryState) (x side : Side) → x ≡ side → (srcs : Both Stream) (depth n : ℕ) (e : PlainEvent) (a : Answer) (r : Result Step Fault) →
-    at depth n e ≡ next_on x (pick side srcs) → answers a q' ≡ called s q (event side e) → r ≡ answer_step depth n (is_cti e) a →
+pub heard_step : (s : Setup) (q q' : QueryState) (x side : Side) → x ≡ side → (srcs : Both Stream) (y : Place) (e : PlainEvent) (a : Answer) (r : Result Step Fault) →
+    at y e ≡ next_on x (pick side srcs) → answers a q' ≡ called s q (event side e) → r ≡ answer_step y (is_cti e) a →
     fed r q' ≡ stepped s q x (pick x srcs)
-heard_step s q q' x side chosen srcs depth n e a r heard_it answers_it is =
+heard_step s q q' x side chosen srcs y e a r heard_it answers_it is =
     (λ i. fed (is i) q')
-    ∙ ap (answered depth n e) answers_it
-    ∙ ap (λ y. stepped_by s q y (at depth n e)) (sym chosen)
+    ∙ ap (answered y e) answers_it
+    ∙ ap (λ z. stepped_by s q z (at y e)) (sym chosen)
     ∙ ap (stepped_by s q x) heard_it
-    ∙ ap (λ y. stepped s q x (pick y srcs)) (sym chosen)
+    ∙ ap (λ z. stepped s q x (pick z srcs)) (sym chosen)
 
 module _ (side : Side) (srcs srcs' : Both Stream) (after : srcs' ≡ put side (rest_of (pick side srcs)) srcs) where
   abbrev es : List Entry

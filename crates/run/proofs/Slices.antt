@@ -1,7 +1,7 @@
 -- What is written into a slice from a place on, and what is kept behind the written places.
 use Rattle.std.proofs.Common.{◌≡◌, ℕ, ◌+◌, ◌-◌, ◌≤◌, List, [], ◌++◌, length, take, drop, sym, ap, ◌∙◌, subst, append-nil, arith, rules}
 use borrow.Rule.Slice.PartMut.{put_mid}
-use Rattle.std.proofs.lemmas.List.{drop-drop, drop_at, take_at, length-take-le}
+use Rattle.std.proofs.lemmas.List.{drop-drop, drop_at, length-take-le}
 use Rattle.std.proofs.lemmas.Slice.{overwrites}
 use Rattle.receipts.specs.declared.line.Line.{Line}
 use Rattle.receipts.specs.declared.window.Window.{Window}
@@ -17,10 +17,7 @@ module _ {X : Type 0} (a : ℕ) (xs ys : List X) (within : a ≤ length xs) wher
   front_size : length (take a xs) ≡ a
   front_size = length-take-le a xs within
 
-  pub front_kept : take a (put_mid a (length xs - a) xs ys) ≡ take a xs
-  front_kept = ap (take a) rest_written ∙ take_at (take a xs) ys a front_size
-
-  pub rest_is : drop a (put_mid a (length xs - a) xs ys) ≡ ys
+  rest_is : drop a (put_mid a (length xs - a) xs ys) ≡ ys
   rest_is = ap (drop a) rest_written ∙ drop_at (take a xs) ys a front_size
 
   -- what is kept behind n places of the part is kept behind a + n places
@@ -29,7 +26,7 @@ module _ {X : Type 0} (a : ℕ) (xs ys : List X) (within : a ≤ length xs) wher
       sym (drop-drop n a (put_mid a (length xs - a) xs ys)) ∙ ap (drop n) rest_is ∙ same ∙ drop-drop n a xs
 
 -- what is kept behind n places, and then behind m, is kept behind m, where m is not below n
-pub later_then : {X : Type 0} (n m : ℕ) (xs ys zs : List X) → n ≤ m → length ys ≡ length xs → Later n xs ys → Later m ys zs → Later m xs zs
+later_then : {X : Type 0} (n m : ℕ) (xs ys zs : List X) → n ≤ m → length ys ≡ length xs → Later n xs ys → Later m ys zs → Later m xs zs
 later_then n m xs ys zs up long here there =
     let split : n + (m - n) ≡ m = omega (arith, up) in
     let further : drop (n + (m - n)) ys ≡ drop (n + (m - n)) xs = sym (drop-drop (m - n) n ys) ∙ ap (drop (m - n)) here.1 ∙ drop-drop (m - n) n xs in

@@ -1,5 +1,5 @@
 -- A turn of the code is the model's turn, by what came of the side's step.
-use Rattle.std.proofs.Common.{◌≡◌, ℕ, ◌+◌, ◌-◌, ◌≤◌, Bool, true, false, ◌&&◌, List, length, take, Ok, Err, Result, sym, refl, ap, ◌∙◌, subst}
+use Rattle.std.proofs.Common.{◌≡◌, ◌+◌, ◌-◌, ◌≤◌, Bool, true, false, ◌&&◌, List, length, take, Ok, Err, Result, sym, refl, ap, ◌∙◌, subst}
 use Rattle.std.proofs.lemmas.List.{length-take-le}
 use Rattle.refusals.specs.declared.fault.Fault.{Fault}
 use Rattle.refusals.specs.declared.fault.Side.{Side}
@@ -15,6 +15,7 @@ use Rattle.run_laws.specs.Runs.{RunState, Report, goes_on, closings, run_fault, 
 use Rattle.run_laws.proofs.TurnsLeft.{turns_left, next_unended}
 use Rattle.sources.specs.Taking.{rest_of}
 use Rattle.run.specs.declared.closing.Written.{Written}
+use Rattle.run.specs.declared.feeding.Place.{Place}
 use Rattle.run.specs.declared.feeding.Step.{Step}
 use Rattle.run.specs.declared.feeding.Step.TheVariants as step
 use Rattle.run.specs.States.{places, standing}
@@ -61,9 +62,9 @@ module _ (s : Setup) (q q' : QueryState) (srcs srcs' : Both Stream) (ls : List L
         (λ i. turns_left (entries_after side srcs srcs' after i) (is i) + 1)
         ∙ ending_spends (entries_of srcs) over side es (pick_entries side srcs) (brings side srcs srcs' after s q q' (Ok step.Ended) made) still
 
-  module _ (depth n : ℕ) (made : fed (Ok (step.Advanced depth n)) q' ≡ stepped s q side (pick side (shallows srcs))) where
+  module _ (y : Place) (made : fed (Ok (step.Advanced y)) q' ≡ stepped s q side (pick side (shallows srcs))) where
     abbrev blame : Refusal → Fault
-    blame = run_fault side depth n
+    blame = run_fault side y.depth y.number
 
     module _ (t : Setup) (same : t ≡ s) (x : RunState) (r : Result (Unit {0}) Refusal) (within : w.windows ≤ length ws)
         (closed : all_closed_turn blame x r
@@ -76,4 +77,4 @@ module _ (s : Setup) (q q' : QueryState) (srcs srcs' : Both Stream) (ls : List L
           ∙ ap (λ z. continued z go) (faulted_turn blame x r)
           ∙ ap (λ z. continued z go) closed
           ∙ (λ i. continued (closings (same i) (places ls ws) blame (length ws - sym (length-take-le w.windows ws within) i) (standing q' (entries_of srcs') over ls ws w)) go)
-          ∙ step_turn (Ok (step.Advanced depth n)) made go
+          ∙ step_turn (Ok (step.Advanced y)) made go

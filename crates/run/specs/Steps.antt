@@ -1,11 +1,11 @@
 -- A side's turn: an event, or the ending, taken from its source and handed to the query.
 --     shallow src                     the stream src, with a depth of at most 65,535
 --     is_cti e                        the event e is a CTI
---     PlainNext                       what a side is to hear: the first event with its source's depth and its number, or the ending
+--     PlainNext                       what a side is to hear: the first event and its place, or the ending
 --     next_as pair r                  what the answer r of taking gives it
 --     next_on side src                what the stream src gives it; a fault is told on the side
 --     ending_step w                   what comes of the ending w
---     answer_step depth n c a         what comes of the query's answer a to the n-th event of a source, a CTI where c is true
+--     answer_step x c a               what comes of the query's answer a to the event at the place x, a CTI where c is true
 --     Fed, fed r q                    what came of the turn, and the query that it leaves
 --     stepped s q side src            what comes of a turn of a side whose source is src
 use Rattle.std.specs.Prelude.{ℕ, min, Bool, true, false, cond, Some, None, Option, Ok, Err, Result}
@@ -19,6 +19,7 @@ use Rattle.rewriting.specs.Streams.{Stream}
 use Rattle.run_laws.specs.Runs.{located}
 use Rattle.sources.specs.Taking.{PlainTaken, next, ended, next_in}
 use Rattle.run.specs.declared.feeding.Next.{Next}
+use Rattle.run.specs.declared.feeding.Place.{Place}
 use Rattle.run.specs.declared.feeding.Step.{Step}
 use Rattle.run.specs.declared.feeding.Step.TheVariants as step
 
@@ -31,11 +32,11 @@ is_cti (retraction r e) = false
 is_cti (cti t) = true
 
 pub data PlainNext : Type 0 where
-  at : ℕ → ℕ → PlainEvent → PlainNext
+  at : Place → PlainEvent → PlainNext
   over : Ending → PlainNext
 
 abbrev pub next_as : {P : Type 0} → (P → Pair) → Result (Option (Next P)) Fault → PlainNext
-next_as pair (Ok (Some x)) = at x.depth x.number (plain_event pair x.event)
+next_as pair (Ok (Some x)) = at x.place (plain_event pair x.event)
 next_as pair (Ok None) = over (Ok tt)
 next_as pair (Err f) = over (Err f)
 
@@ -44,7 +45,7 @@ told_on side (Ok u) = Ok u
 told_on side (Err f) = Err (on_side side f)
 
 abbrev pub next_by : Side → ℕ → PlainTaken → PlainNext
-next_by side depth (next n e) = at depth n e
+next_by side depth (next n e) = at (record { depth = depth; number = n }) e
 next_by side depth (ended w) = over (told_on side w)
 
 abbrev pub next_on : Side → Stream → PlainNext
@@ -55,11 +56,11 @@ ending_step (Ok u) = Ok step.Ended
 ending_step (Err f) = Err f
 
 -- the query answers an event by accepting or refusing it, and in no other way
-abbrev pub answer_step : ℕ → ℕ → Bool → Answer → Result Step Fault
-answer_step depth n c accepted = Ok (cond c (step.Advanced depth n) step.Accepted)
-answer_step depth n c (closed w ls) = Ok step.Accepted
-answer_step depth n c (told x) = Ok step.Accepted
-answer_step depth n c (refused f) = Err (located depth n f)
+abbrev pub answer_step : Place → Bool → Answer → Result Step Fault
+answer_step x c accepted = Ok (cond c (step.Advanced x) step.Accepted)
+answer_step x c (closed w ls) = Ok step.Accepted
+answer_step x c (told n) = Ok step.Accepted
+answer_step x c (refused f) = Err (located x.depth x.number f)
 
 pub record Fed : Type 0 where
   pub step : Result Step Fault
@@ -68,11 +69,11 @@ pub record Fed : Type 0 where
 abbrev pub fed : Result Step Fault → QueryState → Fed
 fed r q = record { step = r; query = q }
 
-abbrev pub answered : ℕ → ℕ → PlainEvent → Called → Fed
-answered depth n e o = fed (answer_step depth n (is_cti e) o.answer) o.after
+abbrev pub answered : Place → PlainEvent → Called → Fed
+answered x e o = fed (answer_step x (is_cti e) o.answer) o.after
 
 abbrev pub stepped_by : Setup → QueryState → Side → PlainNext → Fed
-stepped_by s q side (at depth n e) = answered depth n e (called s q (event side e))
+stepped_by s q side (at x e) = answered x e (called s q (event side e))
 stepped_by s q side (over w) = fed (ending_step w) q
 
 abbrev pub stepped : Setup → QueryState → Side → Stream → Fed

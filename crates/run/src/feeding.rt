@@ -20,13 +20,40 @@ use stores::store::Store;
 // The greatest depth of a source.
 const DEEPEST: u32 = 65_535;
 
+// Where an event stands: its source's depth, and its number there.
+#[derive(Clone, Copy)]
+pub struct Place {
+    depth: u16,
+    number: u64,
+}
+
+impl Place {
+    // The fault of a closing that was refused, at the event just taken.
+    pub fn run_fault(self, side: Side, why: Refusal) -> Fault
+        ensures { result ≡ run_fault side self.depth self.number why }
+    {
+        Fault::at_event(why, u32::from(self.depth) + 1, self.number).on_side(side)
+    }
+
+    // The fault of an event that the query refused.
+    fn locate(self, fault: Fault) -> Fault
+        ensures { result ≡ located self.depth self.number fault }
+    {
+        Fault {
+            depth: Some(u32::from(self.depth) + 1),
+            event: Some(self.number),
+            ..fault
+        }
+    }
+}
+
 // What came of a side's turn without a fault: its source ended, or an event was accepted, which may be a CTI. A CTI has its
-// number and its source's depth with it, since the closings after it may be refused.
+// place with it, since the closings after it may be refused.
 #[derive(Clone, Copy)]
 pub enum Step {
     Ended,
     Accepted,
-    Advanced { depth: u16, number: u64 },
+    Advanced(Place),
 }
 
 // The depth of a source.
@@ -36,28 +63,10 @@ fn depth_of<A: Source>(source: &A) -> u16
     source.depth().min(DEEPEST) as u16
 }
 
-// The fault of a closing that was refused, at the event just taken.
-pub fn run_fault(side: Side, depth: u16, number: u64, why: Refusal) -> Fault
-    ensures { result ≡ run_fault side depth number why }
-{
-    Fault::at_event(why, u32::from(depth) + 1, number).on_side(side)
-}
-
-fn locate(depth: u16, number: u64, fault: Fault) -> Fault
-    ensures { result ≡ located depth number fault }
-{
-    Fault {
-        depth: Some(u32::from(depth) + 1),
-        event: Some(number),
-        ..fault
-    }
-}
-
-// The next event of a source, with the source's depth and the event's number.
+// The next event of a source, and its place.
 #[derive(Clone, Copy)]
 struct Next<P> {
-    depth: u16,
-    number: u64,
+    place: Place,
     event: Event<P>,
 }
 
@@ -69,30 +78,25 @@ fn next_of<A: Source>(source: &mut A, side: Side) -> Result<Option<Next<A::Paylo
     let depth = depth_of(source);
     let taken = source.take().map_err(|fault| fault.on_side(side))?;
     Ok(taken.map(|Numbered { number, event }| Next {
-        depth,
-        number,
+        place: Place { depth, number },
         event,
     }))
 }
 
 // What comes of the query's answer to an event.
 fn answered<P: Payload>(next: Next<P>, answer: Result<(), Fault>) -> Result<Step, Fault>
-    ensures { result ≡ answer_step next.depth next.number (is_cti (plain_event P.Payload.pair next.event)) (event_told answer) }
+    ensures { result ≡ answer_step next.place (is_cti (plain_event P.Payload.pair next.event)) (event_told answer) }
 {
-    let Next {
-        depth,
-        number,
-        event,
-    } = next;
-    answer.map_err(|fault| locate(depth, number, fault))?;
-    Ok(if matches!(event, Event::Cti(_)) {
-        Step::Advanced { depth, number }
+    answer.map_err(|fault| next.place.locate(fault))?;
+    Ok(if matches!(next.event, Event::Cti(_)) {
+        Step::Advanced(next.place)
     } else {
         Step::Accepted
     })
 }
 
-// A turn of a side: feeds the query from its source, and leaves the other source as it is.
+// A turn of a side: feeds the query from its source, and leaves the other source as it is. The two arms differ in the type of
+// the event, so neither the source nor the method can be picked first.
 pub fn feed<
     L: Payload,
     R: Payload,

@@ -10,7 +10,7 @@ ghost use Rattle.run.specs.States.{places};
 ghost use Rattle.run.specs.Turns.{sides, nothing_left, entries_of, stands, shallows, tails, turned, Spends};
 
 use crate::closing::{Written, close_all};
-use crate::feeding::{Step, feed, run_fault};
+use crate::feeding::{Step, feed};
 use query::engine::Query;
 use receipts::line::Line;
 use receipts::window::Window;
@@ -99,9 +99,9 @@ impl<L: Payload, R: Payload, S: Store, T: Store> Run<L, R, S, T> {
                 Ok(())
             }
             Step::Accepted => Ok(()),
-            Step::Advanced { depth, number } => {
+            Step::Advanced(place) => {
                 close_all(&mut self.query, &mut self.written, lines, windows).map_err(
-                    |why| run_fault(side, depth, number, why),
+                    |why| place.run_fault(side, why),
                 )
             }
         }

@@ -59,12 +59,12 @@ returns-in-Advanced-clause-value g c =
     let q = state c.args.self.now.query in
     let srcs : Both Stream = both (g.A.Source.stream c.args.left.now) (g.B.Source.stream c.args.right.now) in
     let srcs' : Both Stream = both (g.A.Source.stream c.feed.new.left) (g.B.Source.stream c.feed.new.right) in
-    let at = c.in-Advanced in
-    let made : fed (Ok (step.Advanced at.depth at.number)) (state c.feed.new.query) ≡ stepped (setup c.args.self.now.query) q c.next_side-side.result
-    (pick c.next_side-side.result (shallows srcs)) = rw at.is at c.in_ok-feed.ensures.value in
+    let at = c.in-Advanced.place in
+    let made : fed (Ok (step.Advanced at)) (state c.feed.new.query) ≡ stepped (setup c.args.self.now.query) q c.next_side-side.result
+    (pick c.next_side-side.result (shallows srcs)) = rw c.in-Advanced.is at c.in_ok-feed.ensures.value in
     let told : c.map_err.result ≡ faulted (run_fault c.next_side-side.result at.depth at.number) c.close_all.result = search rules in
     advanced_turn (setup c.args.self.now.query) q (state c.feed.new.query) srcs srcs' c.args.lines.now c.args.windows.now
     (sides c.args.self.now.over) c.args.self.now.written c.next_side-side.result c.next_side-side.ensures c.feed.ensures.after
-    at.depth at.number made (setup c.feed.new.query) c.feed.ensures.same
+    at made (setup c.feed.new.query) c.feed.ensures.same
     (standing (state c.close_all.new.query) (entries_of srcs') (sides c.args.self.now.over) c.close_all.new.lines c.close_all.new.windows c.close_all.new.written)
     c.close_all.result c.requires.fits.1 (c.close_all.ensures.value _ _ _) c.map_err.result told
