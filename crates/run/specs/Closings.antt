@@ -4,6 +4,8 @@
 --     Kept w ls ls' ws ws'            so it is with both slices, behind what w tells
 --     closing_told_from n r places    the answer r of a closing that wrote its lines from the place n on
 --     Grows v w                       what was written stays: no fewer lines and records in w than in v
+--     Onward q v ls ws q' w ls' ws'   so a run goes on: the setup of the query q stays, what was written stays, and the places
+--                                     behind it keep their content
 --     Counts v w r                    a closing wrote one window record, or was refused
 --     closed_turn s p blame n x r     the turn after one closing that left the state x, with places for n more window records: it
 --                                     closes on, or stops for the refusal
@@ -14,6 +16,10 @@ use Rattle.refusals.specs.declared.refusal.Refusal.{Refusal}
 use Rattle.receipts.specs.declared.line.Line.{Line}
 use Rattle.receipts.specs.declared.window.Window.{Window}
 use Rattle.receipts.specs.Queries.{Setup, Answer, closed, refused}
+use Rattle.rows.specs.declared.payload.Payload
+use Rattle.stores.specs.declared.store.Store
+use Rattle.query.specs.declared.engine.Query.{Query}
+use Rattle.query.specs.Queries.{setup}
 use Rattle.run_laws.specs.Runs.{Places, RunState, Turn, goes_on, stops, closings}
 use Rattle.run.specs.declared.closing.Written.{Written}
 
@@ -32,6 +38,10 @@ closing_told_from from (Err f) places = refused f
 
 abbrev pub Grows : Written → Written → Type 0
 Grows v w = (v.lines ≤ w.lines) × (v.windows ≤ w.windows)
+
+abbrev pub Onward : {L R S T : Type 0} {l : Payload.Ghosts L} {r : Payload.Ghosts R} {s : Store.Ghosts S} {t : Store.Ghosts T} →
+    Query L R S T l r s t → Written → List Line → List Window → Query L R S T l r s t → Written → List Line → List Window → Type 0
+Onward q v ls ws q' w ls' ws' = (setup q' ≡ setup q) × Grows v w × Kept w ls ls' ws ws'
 
 abbrev pub Counts : Written → Written → Result (Unit {0}) Refusal → Type 0
 Counts v w (Ok x) = w.windows ≡ v.windows + 1

@@ -8,7 +8,8 @@
 --     answer_step x c a               what comes of the query's answer a to the event at the place x, a CTI where c is true
 --     Fed, fed r q                    what came of the turn, and the query that it leaves
 --     stepped s q side src            what comes of a turn of a side whose source is src
-use Rattle.std.specs.Prelude.{ℕ, min, Bool, true, false, cond, Some, None, Option, Ok, Err, Result}
+--     steps q side src x after        so it comes to x, and leaves the query after, which has the setup of q
+use Rattle.std.specs.Prelude.{◌≡◌, ℕ, min, Bool, true, false, cond, Some, None, Option, Ok, Err, Result}
 use Rattle.refusals.specs.declared.fault.Fault.{Fault}
 use Rattle.refusals.specs.declared.fault.Side.{Side}
 use Rattle.refusals.specs.Faults.{on_side, Ending}
@@ -16,6 +17,10 @@ use Rattle.rows.specs.Events.{PlainEvent, plain_event, insert, retraction, cti}
 use Rattle.rows.specs.Kinds.{Pair}
 use Rattle.receipts.specs.Queries.{Setup, QueryState, event, Answer, accepted, closed, told, refused, Called, called}
 use Rattle.rewriting.specs.Streams.{Stream}
+use Rattle.rows.specs.declared.payload.Payload
+use Rattle.stores.specs.declared.store.Store
+use Rattle.query.specs.declared.engine.Query.{Query}
+use Rattle.query.specs.Queries.{setup, state}
 use Rattle.run_laws.specs.Runs.{located}
 use Rattle.sources.specs.Taking.{PlainTaken, next, ended, next_in}
 use Rattle.run.specs.declared.feeding.Next.{Next}
@@ -78,3 +83,8 @@ stepped_by s q side (over w) = fed (ending_step w) q
 
 abbrev pub stepped : Setup → QueryState → Side → Stream → Fed
 stepped s q side src = stepped_by s q side (next_on side src)
+
+-- in one equation what came of it and what it leaves; and the setup stays
+abbrev pub steps : {L R S T : Type 0} {l : Payload.Ghosts L} {r : Payload.Ghosts R} {s : Store.Ghosts S} {t : Store.Ghosts T} →
+    Query L R S T l r s t → Side → Stream → Result Step Fault → Query L R S T l r s t → Type 0
+steps q side src x after = (fed x (state after) ≡ stepped (setup q) (state q) side src) × (setup after ≡ setup q)

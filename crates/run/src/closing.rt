@@ -3,13 +3,13 @@ ghost use Rattle.std.specs.Prelude.{◌≡◌, ◌+◌, ◌-◌, ◌≤◌, Bool
 ghost use Rattle.refusals.specs.declared.fault.Fault.{Fault};
 ghost use Rattle.refusals.specs.declared.refusal.Refusal.{Refusal};
 ghost use Rattle.receipts.specs.Histories.{Entry};
-ghost use Rattle.receipts.specs.Queries.{called, closing, may_close};
+ghost use Rattle.receipts.specs.Queries.{closing, may_close};
 ghost use Rattle.receipts.specs.Sides.{Both};
-ghost use Rattle.query.specs.Answers.{answers, lines_told};
-ghost use Rattle.query.specs.Queries.{setup, state};
+ghost use Rattle.query.specs.Answers.{lines_told};
+ghost use Rattle.query.specs.Queries.{setup, state, calls};
 ghost use Rattle.run_laws.specs.Runs.{closings};
 ghost use Rattle.run.specs.States.{places, standing};
-ghost use Rattle.run.specs.Closings.{Fits, Kept, Grows, closing_told_from, Counts, closed_turn, all_closed_turn};
+ghost use Rattle.run.specs.Closings.{Fits, Onward, closing_told_from, Counts, closed_turn, all_closed_turn};
 
 use query::engine::Query;
 use receipts::line::Line;
@@ -33,11 +33,9 @@ fn close_from<L: Payload, R: Payload, S: Store, T: Store>(
     from: usize,
 ) -> Result<Window, Fault>
     requires { from ≤ length lines.old }
-    ensures call { answers (closing_told_from from result lines.new) (state query.new)
-        ≡ called (setup query.old) (state query.old) (closing (length lines.old - from)) }
+    ensures call { calls query.old (closing (length lines.old - from)) (closing_told_from from result lines.new) query.new }
     ensures earlier { take from lines.new ≡ take from lines.old }
     ensures later { drop (from + lines_told result) lines.new ≡ drop (from + lines_told result) lines.old }
-    ensures same { setup query.new ≡ setup query.old }
 {
     query.close(&mut lines[from..])
 }
@@ -58,9 +56,7 @@ fn close_once<L: Payload, R: Payload, S: Store, T: Store>(
         ≡ closings (setup query.old) (places lines.old windows.old) blame (length windows.old - written.old.windows)
         (standing (state query.old) rest over lines.old windows.old written.old) }
     ensures count { Counts written.old written.new result }
-    ensures more { Grows written.old written.new }
-    ensures kept { Kept written.new lines.old lines.new windows.old windows.new }
-    ensures same { setup query.new ≡ setup query.old }
+    ensures onward { Onward query.old written.old lines.old windows.old query.new written.new lines.new windows.new }
 {
     if windows.len() <= written.windows {
         return Err(Refusal::WindowsFull);
@@ -84,9 +80,7 @@ pub fn close_all<L: Payload, R: Payload, S: Store, T: Store>(
         all_closed_turn blame (standing (state query.new) rest over lines.new windows.new written.new) result
         ≡ closings (setup query.old) (places lines.old windows.old) blame (length windows.old - written.old.windows)
         (standing (state query.old) rest over lines.old windows.old written.old) }
-    ensures more { Grows written.old written.new }
-    ensures kept { Kept written.new lines.old lines.new windows.old windows.new }
-    ensures same { setup query.new ≡ setup query.old }
+    ensures onward { Onward query.old written.old lines.old windows.old query.new written.new lines.new windows.new }
 {
     while query.may_close() {
         close_once(query, written, lines, windows)?;

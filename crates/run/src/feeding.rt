@@ -1,13 +1,12 @@
 // Feeding the query from a source: one event, or the source's ending.
 ghost use Rattle.std.specs.Prelude.{◌≡◌};
 ghost use Rattle.rows.specs.Events.{plain_event};
-ghost use Rattle.query.specs.Queries.{setup, state};
 ghost use Rattle.joining.specs.Guards.{both};
 ghost use Rattle.run_laws.specs.Runs.{run_fault, located};
 ghost use Rattle.sources.specs.Taking.{rest_of};
 ghost use Rattle.receipts.specs.Sides.{pick, put};
 ghost use Rattle.query.specs.Answers.{event_told};
-ghost use Rattle.run.specs.Steps.{shallow, next_as, next_on, is_cti, answer_step, fed, stepped};
+ghost use Rattle.run.specs.Steps.{shallow, next_as, next_on, is_cti, answer_step, steps};
 
 use query::engine::Query;
 use refusals::fault::{Fault, Side};
@@ -105,13 +104,10 @@ pub fn feed<
     A: Source<Payload = L>,
     B: Source<Payload = R>,
 >(query: &mut Query<L, R, S, T>, left: &mut A, right: &mut B, side: Side) -> Result<Step, Fault>
-    ensures value { fed result (state query.new)
-        ≡ stepped (setup query.old) (state query.old) side
-        (pick side (both (shallow (A.Source.stream left.old)) (shallow (B.Source.stream right.old)))) }
+    ensures value { steps query.old side (pick side (both (shallow (A.Source.stream left.old)) (shallow (B.Source.stream right.old)))) result query.new }
     ensures after { both (A.Source.stream left.new) (B.Source.stream right.new)
         ≡ put side (rest_of (pick side (both (A.Source.stream left.old) (B.Source.stream right.old))))
         (both (A.Source.stream left.old) (B.Source.stream right.old)) }
-    ensures same { setup query.new ≡ setup query.old }
 {
     match side {
         Side::Left => match next_of(left, side)? {

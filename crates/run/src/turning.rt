@@ -5,7 +5,7 @@ ghost use Rattle.joining.specs.Guards.{both};
 ghost use Rattle.query.specs.Queries.{setup, state};
 ghost use Rattle.run_laws.specs.Runs.{RunState, Report, continued, next_side, turn};
 ghost use Rattle.run_laws.proofs.TurnsLeft.{turns_left};
-ghost use Rattle.run.specs.Closings.{Fits, Kept, Grows};
+ghost use Rattle.run.specs.Closings.{Fits, Onward};
 ghost use Rattle.run.specs.States.{places};
 ghost use Rattle.run.specs.Turns.{sides, nothing_left, entries_of, stands, shallows, tails, turned, Spends};
 
@@ -88,9 +88,7 @@ impl<L: Payload, R: Payload, S: Store, T: Store> Run<L, R, S, T> {
             (turns_left (entries_of (both (A.Source.stream left.old) (B.Source.stream right.old))) (sides self.old.over)) }
         ensures ends { tails (both (A.Source.stream left.new) (B.Source.stream right.new))
             ≡ tails (both (A.Source.stream left.old) (B.Source.stream right.old)) }
-        ensures more { Grows self.old.written self.new.written }
-        ensures kept { Kept self.new.written lines.old lines.new windows.old windows.new }
-        ensures same { setup self.new.query ≡ setup self.old.query }
+        ensures onward { Onward self.old.query self.old.written lines.old windows.old self.new.query self.new.written lines.new windows.new }
     {
         let side = self.next_side();
         match feed(&mut self.query, left, right, side)? {

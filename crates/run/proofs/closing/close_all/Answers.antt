@@ -16,9 +16,9 @@ loop-query-preserved g c =
     let ws = c.loop-query.windows in
     let lines : length ls ≡ length c.args.lines.now = c.loop-query.auto.lines in
     let windows : length ws ≡ length c.args.windows.now = c.loop-query.auto.windows in (
-      told.same ∙ i.0,
-      kept_then c.loop-query.written c.close_once.new.written c.args.lines.now ls _ c.args.windows.now ws _ told.more lines windows i.1 told.kept,
-      (omega (arith, i.2.0, told.more.0), omega (arith, i.2.1, told.more.1)),
+      told.onward.0 ∙ i.0,
+      kept_then c.loop-query.written c.close_once.new.written c.args.lines.now ls _ c.args.windows.now ws _ told.onward.1 lines windows i.1 told.onward.2,
+      (omega (arith, i.2.0, told.onward.1.0), omega (arith, i.2.1, told.onward.1.1)),
       λ rest over blame.
           sym (closings_moved s t ls c.args.lines.now ws c.args.windows.now i.0 lines windows blame c.close_once.new.written.windows _)
           ∙ told.value rest over blame
@@ -26,11 +26,15 @@ loop-query-preserved g c =
           ∙ i.3 rest over blame,
     )
 
-pub returns-in_err-close_once-clause-kept : goal.returns-in_err-close_once-clause-kept
-returns-in_err-close_once-clause-kept g c =
-    let told = c.close_once.ensures in
-    kept_then c.loop-query.written c.close_once.new.written c.args.lines.now c.loop-query.lines _ c.args.windows.now c.loop-query.windows _
-    told.more c.loop-query.auto.lines c.loop-query.auto.windows c.loop-query.invariant.1 told.kept
+pub returns-in_err-close_once-clause-onward : goal.returns-in_err-close_once-clause-onward
+returns-in_err-close_once-clause-onward g c =
+    let i = c.loop-query.invariant in
+    let told = c.close_once.ensures.onward in (
+      told.0 ∙ i.0,
+      (omega (arith, i.2.0, told.1.0), omega (arith, i.2.1, told.1.1)),
+      kept_then c.loop-query.written c.close_once.new.written c.args.lines.now c.loop-query.lines _ c.args.windows.now c.loop-query.windows _
+          told.1 c.loop-query.auto.lines c.loop-query.auto.windows i.1 told.2,
+    )
 
 pub returns-clause-value : goal.returns-clause-value
 returns-clause-value g c = λ rest over blame.

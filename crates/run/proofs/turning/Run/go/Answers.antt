@@ -23,9 +23,9 @@ loop-self-preserved g c =
     let lines : length y.lines ≡ length c.args.lines.now = y.auto.lines in
     let windows : length y.windows ≡ length c.args.windows.now = y.auto.windows in
     let fine : c.take_turn.result ≡ Ok tt = search rules in (
-      told.same ∙ i.0,
+      told.onward.0 ∙ i.0,
       told.ends ∙ i.1,
-      kept_then y.self.written z.self.written c.args.lines.now y.lines _ c.args.windows.now y.windows _ told.more lines windows i.2 told.kept,
+      kept_then y.self.written z.self.written c.args.lines.now y.lines _ c.args.windows.now y.windows _ told.onward.1 lines windows i.2 told.onward.2,
       goes_further (setup c.args.self.now.query) (places c.args.lines.now c.args.windows.now) (setup y.self.query) i.0
           (places y.lines y.windows) (λ k. record { lines = lines k; windows = windows k })
           srcs first i.1 (stands y.self srcs y.lines y.windows) (stands z.self srcs' z.lines z.windows) c.take_turn.result c.take_turn.ensures.value
@@ -58,7 +58,7 @@ returns-in_err-take_turn-clause-kept g c =
     let y = c.loop-self in
     let told = c.take_turn.ensures in
     kept_then y.self.written c.take_turn.new.self.written c.args.lines.now y.lines _ c.args.windows.now y.windows _
-    told.more y.auto.lines y.auto.windows y.invariant.2 told.kept
+    told.onward.1 y.auto.lines y.auto.windows y.invariant.2 told.onward.2
 
 pub returns-clause-value : goal.returns-clause-value
 returns-clause-value g c =
