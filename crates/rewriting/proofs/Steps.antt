@@ -6,10 +6,10 @@ use Rattle.rows.specs.Rows.{Plain}
 use Rattle.rows.specs.Events.{PlainEvent, insert, retraction, cti, sync, timely}
 use Rattle.receipts.specs.Histories.{cti_after}
 use Rattle.rewriting.specs.Rules.{Image, Rule, Keeps}
-use Rattle.rewriting.specs.Layers.{Rewritten, vanishes, is_now, refused, of_retraction, new_image, remade}
+use Rattle.rewriting.specs.Layers.{Rewritten, vanishes, is_now, refused, of_retraction, new_image, remade, image_row}
 use Rattle.rewriting.proofs.Agree.{Latest, Agree, images_agree}
 use Rattle.rewriting.proofs.Events.{ById, remains, put_event, Fits}
-use Rattle.rewriting.proofs.Images.{image_row, image_of}
+use Rattle.rewriting.proofs.Images.{image_of}
 
 -- a legal list with the latest CTI d and the history up may go on with it
 abbrev pub Allowed : ℕ → ById → Rewritten → Type 0

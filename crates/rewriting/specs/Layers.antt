@@ -3,9 +3,11 @@
 --     rewritten f e               what the rule f makes of the event e
 --     layer f src                 the stream of a layer by the rule f over the stream src
 --     pile fs src                 the stream of layers by the rules fs, lowest first
+--     row_image f x               the image of the row x by the rule f, if it has one
 --     images f rows               the images of rows, those without one left out
 --     rewritten_history fs src    the history of the stream src, its rows put through the rules fs, lowest first
-use Rattle.std.specs.Prelude.{ℕ, cond, ◌&&◌, List, [], ◌∷◌, ◌==◌, Err}
+use Rattle.std.specs.Prelude.{ℕ, cond, ◌&&◌, List, [], ◌∷◌, ◌==◌, Option, Some, None, Err}
+use Rattle.std.specs.List.{filter_map}
 use Rattle.refusals.specs.declared.refusal.Refusal.{Refusal}
 use Rattle.refusals.specs.declared.refusal.Refusal.TheVariants.{BadTime}
 use Rattle.refusals.specs.Faults.{event_fault, Ending}
@@ -86,14 +88,16 @@ abbrev pub pile : List Rule → Stream → Stream
 pile [] src = src
 pile (f ∷ fs) src = pile fs (layer f src)
 
-abbrev pub with_image : Plain → Image → List Plain → List Plain
-with_image x (refuses w) rows = rows
-with_image x nothing rows = rows
-with_image x (to a b) rows = spanned x a b ∷ rows
+abbrev pub image_row : Plain → Image → Option Plain
+image_row x (refuses w) = None
+image_row x nothing = None
+image_row x (to a b) = Some (spanned x a b)
+
+abbrev pub row_image : Rule → Plain → Option Plain
+row_image f x = image_row x (f.image x)
 
 abbrev pub images : Rule → List Plain → List Plain
-images f [] = []
-images f (x ∷ xs) = with_image x (f.image x) (images f xs)
+images f rows = filter_map (row_image f) rows
 
 abbrev pub through : List Rule → List Plain → List Plain
 through [] rows = rows

@@ -43,15 +43,11 @@ impl RowRule for Select {
 
     fn image<P: Payload>(&self, _id: u32, span: Span, payload: P) -> Result<Option<Span>, Refusal> {
         let key = payload.key();
-        if self.low <= key
+        let kept = self.low <= key
             && key <= self.high
             && self.least <= payload.least()
-            && payload.most() <= self.most
-        {
-            Ok(Some(span))
-        } else {
-            Ok(None)
-        }
+            && payload.most() <= self.most;
+        Ok(kept.then_some(span))
     }
 
     fn advance<P: Payload>(&self, time: u32) -> Result<u32, Refusal> {
