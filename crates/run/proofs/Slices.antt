@@ -25,6 +25,12 @@ module _ {X : Type 0} (a : ℕ) (xs ys : List X) (within : a ≤ length xs) wher
   behind_kept n same =
       sym (drop-drop n a (put_mid a (length xs - a) xs ys)) ∙ ap (drop n) rest_is ∙ same ∙ drop-drop n a xs
 
+-- what is kept behind n places is kept behind m, where m is not below n
+pub kept_further : {X : Type 0} (n m : ℕ) (xs ys : List X) → drop n ys ≡ drop n xs → n ≤ m → drop m ys ≡ drop m xs
+kept_further n m xs ys same up =
+    let split : n + (m - n) ≡ m = omega (arith, up) in
+    subst (λ k. drop k ys ≡ drop k xs) split (sym (drop-drop (m - n) n ys) ∙ ap (drop (m - n)) same ∙ drop-drop (m - n) n xs)
+
 -- what is kept behind n places, and then behind m, is kept behind m, where m is not below n
 later_then : {X : Type 0} (n m : ℕ) (xs ys zs : List X) → n ≤ m → length ys ≡ length xs → Later n xs ys → Later m ys zs → Later m xs zs
 later_then n m xs ys zs up long here there =

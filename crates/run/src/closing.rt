@@ -27,6 +27,7 @@ pub struct Written {
 }
 
 // Closes the next window, and writes its lines from a place on.
+#[tactic(auto, using(crate::proofs::Slices::behind_kept, std::proofs::lemmas::Slice::between_to_end))]
 fn close_from<L: Payload, R: Payload, S: Store, T: Store>(
     query: &mut Query<L, R, S, T>,
     lines: &mut [Line],
@@ -42,6 +43,7 @@ fn close_from<L: Payload, R: Payload, S: Store, T: Store>(
 
 // Closes once, where closing is allowed: WindowsFull where there is no place for the window record, else LinesFull where
 // there are too few for the lines. A refused closing writes nothing.
+#[tactic(auto, using(crate::proofs::CloseOnce::closes_on))]
 fn close_once<L: Payload, R: Payload, S: Store, T: Store>(
     query: &mut Query<L, R, S, T>,
     written: &mut Written,
@@ -69,6 +71,7 @@ fn close_once<L: Payload, R: Payload, S: Store, T: Store>(
 }
 
 // Closes until closing is not allowed, or a closing is refused.
+#[tactic(auto, using(crate::proofs::Slices::kept_further, crate::proofs::CloseOnce::closings_none, crate::proofs::CloseOnce::closings_moved))]
 pub fn close_all<L: Payload, R: Payload, S: Store, T: Store>(
     query: &mut Query<L, R, S, T>,
     written: &mut Written,

@@ -23,6 +23,7 @@ use stores::store::Store;
 
 impl<L: Payload, R: Payload, S: Store, T: Store> Run<L, R, S, T> {
     // Turn after turn, until both sources have ended or a fault is met.
+    #[tactic(auto, using(crate::proofs::Slices::kept_further, crate::proofs::RunsTurned::ran_over))]
     fn go<A: Source<Payload = L>, B: Source<Payload = R>>(
         &mut self,
         left: &mut A,

@@ -1,6 +1,6 @@
-use Rattle.std.proofs.Common.{◌≡◌, Some, Ok, Err, rules}
+use Rattle.std.proofs.Common.{◌≡◌, Some, Err, rules}
 use Rattle.query.specs.Queries.{setup, state}
-use Rattle.run.proofs.CloseOnce.{refusal_of, lines_full, closes_on}
+use Rattle.run.proofs.CloseOnce.{refusal_of, lines_full}
 use Rattle.run.proofs.closing.close_once.Goals as goal
 
 pub returns-in_err-window-clause-value : goal.returns-in_err-window-clause-value
@@ -11,10 +11,3 @@ returns-in_err-window-clause-value g c =
     rw told (lines_full (setup c.args.query.now) (state c.args.query.now) c.args.lines.now c.args.windows.now
     c.args.written.now.lines c.args.written.now.windows c.requires.due c.requires.fits.0 (state c.close_from.new.query) c.close_from.new.lines
     c.close_from.ensures.earlier c.close_from.result why is c.close_from.ensures.call.0 c.if-windows-written.false)
-
-pub returns-clause-value : goal.returns-clause-value
-returns-clause-value g c =
-    let is : c.close_from.result ≡ Ok c.in_ok-window.window = search rules in
-    closes_on (setup c.args.query.now) (state c.args.query.now) c.args.lines.now c.args.windows.now
-    c.args.written.now.lines c.args.written.now.windows c.requires.due c.requires.fits.0 (state c.close_from.new.query) c.close_from.new.lines
-    c.close_from.ensures.earlier c.in_ok-window.window (rw is at c.close_from.ensures.call.0) c.if-windows-written.false

@@ -6,8 +6,8 @@ use Rattle.query.specs.Queries.{setup}
 use Rattle.run_laws.specs.Runs.{RunState}
 use Rattle.run_laws.proofs.TurnsLeft.{turns_left}
 use Rattle.run.specs.States.{places}
-use Rattle.run.specs.Turns.{sides, entries_of, stands, shallows}
-use Rattle.run.proofs.RunsTurned.{some_left, ran_over, goes_further, stops_there}
+use Rattle.run.specs.Turns.{sides, entries_of, stands}
+use Rattle.run.proofs.RunsTurned.{some_left, goes_further, stops_there}
 use Rattle.run.proofs.Slices.{kept_then}
 use Rattle.run.proofs.turning.Run.go.Goals as goal
 
@@ -52,19 +52,3 @@ returns-in_err-take_turn-clause-value g c =
     srcs first i.1 x (stands z.self srcs' z.lines z.windows) c.take_turn.result c.take_turn.ensures.value
     (sym c.loop-self-test.ensures) (turns_left x.rest x.over) why met (some_left x.rest x.over (sym c.loop-self-test.ensures))
     ∙ i.3)
-
-pub returns-in_err-take_turn-clause-kept : goal.returns-in_err-take_turn-clause-kept
-returns-in_err-take_turn-clause-kept g c =
-    let y = c.loop-self in
-    let told = c.take_turn.ensures in
-    kept_then y.self.written c.take_turn.new.self.written c.args.lines.now y.lines _ c.args.windows.now y.windows _
-    told.onward.1 y.auto.lines y.auto.windows y.invariant.2 told.onward.2
-
-pub returns-clause-value : goal.returns-clause-value
-returns-clause-value g c =
-    let y = c.loop-self in
-    let first : Both Stream = both (g.A.Source.stream c.args.left.now) (g.B.Source.stream c.args.right.now) in
-    let srcs : Both Stream = both (g.A.Source.stream y.left) (g.B.Source.stream y.right) in
-    let x : RunState = stands y.self srcs y.lines y.windows in
-    sym (ran_over (setup c.args.self.now.query) (places c.args.lines.now c.args.windows.now) (shallows first) (turns_left x.rest x.over) x (sym c.loop-self-test.ensures))
-    ∙ y.invariant.3
