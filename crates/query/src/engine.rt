@@ -13,7 +13,8 @@ pub mod questions;
 // The greatest width of a window, in seconds: a week.
 pub const WIDEST: u32 = 604_800;
 
-// The windows' width, the closed time, which is the end of the last window that was closed, and both inputs.
+// The windows' width, the closed time, which is the end of the last window that was closed, and both inputs. Clauses read a
+// query by its setup and its state; it has no model, whose value is data, while a setup has the functions of its kinds.
 #[derive(Drop)]
 pub struct Query<L: Payload, R: Payload, S: Store, T: Store> {
     width: u32,
