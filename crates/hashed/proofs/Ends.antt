@@ -15,11 +15,11 @@ use Rattle.tables.specs.Cells.{slot_of, spanned}
 use Rattle.tables.specs.Tables.{cells}
 use Rattle.tables.proofs.Found.{slot_of_has}
 use Rattle.hashed.specs.declared.store.HashedStore.{HashedStore}
-use Rattle.hashed.specs.Listing.{in_use, or_blank, row_in, rows_in}
+use Rattle.hashed.specs.Listing.{slots, or_blank, row_in, rows_in}
 use Rattle.hashed.specs.Model.{held}
-use Rattle.hashed.specs.Changes.{Good, found_at}
-use Rattle.hashed.specs.State.{good_of}
-use Rattle.hashed.proofs.Updates.{end_good, end_rows}
+use Rattle.hashed.proofs.Changes.{found_at}
+use Rattle.hashed.proofs.State.{good_of}
+use Rattle.hashed.proofs.Updates.{Kept, end_kept, end_rows}
 
 module _ (s : HashedStore) (id i : ℕ) (here : slot_of id (cells s.table) ≡ Some i) where
   abbrev cs : List (Option Plain)
@@ -48,10 +48,10 @@ module _ (s : HashedStore) (id i : ℕ) (here : slot_of id (cells s.table) ≡ S
           ∙ ap (λ n. spanned n span.end (Some x)) (good.1 ∙ started) ∙ ap (λ n. spanned x.start n (Some x)) good.2 in
           told ∙ ap (set cs i) (cell ∙ ap (λ z. Some (with_end e z)) (sym here))
 
-      pub set_good : Good (cells t) (in_use t s.ids) (in_use t s.slots)
-      set_good = end_good s t id i here e ended
+      pub set_kept : Kept t s.entries.items
+      set_kept = end_kept s t id i here e ended
 
-      pub set_done : accept (rows_in (cells t) (in_use t s.slots)) ≡ sets id e (held s)
+      pub set_done : accept (rows_in (cells t) (slots s.entries.items)) ≡ sets id e (held s)
       set_done =
           ap accept (end_rows s t id i here e ended)
           ∙ sets_done id (held s) e x row_told (ap (λ n. lawful n e) (sym started) ∙ (span_good start e (times span) made).0)

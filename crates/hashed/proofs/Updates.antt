@@ -1,12 +1,13 @@
--- A store after its table and its lists have changed.
-use Rattle.std.proofs.Common.{◌≡◌, ℕ, ◌+◌, ◌-◌, ◌<◌, ◌≤◌, true, false, List, length, get_or, take, set, is_some, Some, None, Ok, Err, Option, sym, refl, ap, ◌∙◌, subst, ⊎_elim, arith}
-use Rattle.std.proofs.lemmas.List.{length-take-le}
+-- A store after its table and its entries have changed.
+use Rattle.std.proofs.Common.{◌≡◌, ℕ, ◌+◌, ◌<◌, ◌≤◌, true, false, List, length, get_or, set, is_some, Some, None, Ok, Err, Option, sym, refl, ap, ◌∙◌, subst, ⊎_elim, arith}
+use Rattle.std.proofs.lemmas.List.{length-map}
 use Rattle.std.proofs.lemmas.Bool.{false≢true, true≢false}
 use Rattle.std.specs.List.{insert, remove}
 use Rattle.refusals.specs.declared.refusal.Refusal.{Refusal}
 use Rattle.rows.specs.Rows.{Plain, with_end}
-use Rattle.receipts.specs.Stores.{holds_id, placed, end_set, without, accept, refuse, adds}
+use Rattle.receipts.specs.Stores.{holds_id, end_set, without, accept, refuse, adds}
 use Rattle.stores.specs.Places.{id_of, place, has_id}
+use Rattle.stores.proofs.Edits.{map_inserted, map_removed}
 use Rattle.stores.proofs.Outcomes.{adds_held, adds_full, adds_done}
 use Rattle.stores.proofs.Places.{below_le, holds_found}
 use Rattle.tables.specs.declared.table.Table.{Table}
@@ -16,33 +17,37 @@ use Rattle.tables.proofs.Found.{slot_of_has}
 use Rattle.tables.proofs.Free.{free_slot_free, filled_more, filled_same, filled_less}
 use Rattle.tables.proofs.Laws.{length_cells, alone}
 use Rattle.tables.proofs.Puts.{put_told, put_refused}
+use Rattle.hashed.specs.declared.entry.Entry.{Entry}
 use Rattle.hashed.specs.declared.store.HashedStore.{HashedStore}
-use Rattle.hashed.specs.Listing.{in_use, row_in, rows_in}
+use Rattle.hashed.specs.Laws.{length_held}
+use Rattle.hashed.specs.Listing.{ids, slots, row_in, rows_in}
 use Rattle.hashed.specs.Model.{held}
-use Rattle.hashed.specs.Held.{has_some, row_there}
-use Rattle.hashed.specs.Changes.{Good, held_at, absent_at, rows_put, good_put, slot_within, rows_end, good_end, place_within, rows_cut, good_cut}
-use Rattle.hashed.specs.State.{good_of, few, length_held}
+use Rattle.hashed.proofs.Held.{has_some, row_there}
+use Rattle.hashed.proofs.Changes.{Good, held_at, absent_at, rows_put, good_put, slot_within, rows_end, good_end, place_within, rows_cut, good_cut}
+use Rattle.hashed.proofs.State.{good_of}
 
-abbrev Kept : Table → List ℕ → List ℕ → Type 0
-Kept t ids slots = Good (cells t) (in_use t ids) (in_use t slots)
+-- what a store's fields tell, of a table and entries
+pub record Kept (t : Table) (es : List Entry) : Type 0 where
+  pub counted : length es ≡ filled (cells t)
+  pub good : Good (cells t) (ids es) (slots es)
 
-good_is : {cs new : List (Option Plain)} {ids slots : List ℕ} → new ≡ cs → (more fresh : List ℕ) → more ≡ ids → fresh ≡ slots → Good cs ids slots → Good new more fresh
-good_is {cs} {new} {ids} {slots} a more fresh b c good =
-    subst (λ z. Good z more fresh) (sym a) (subst (λ z. Good cs z fresh) (sym b) (subst (λ z. Good cs ids z) (sym c) good))
+good_is : {cs new : List (Option Plain)} {xs ys : List ℕ} → new ≡ cs → (more fresh : List ℕ) → more ≡ xs → fresh ≡ ys → Good cs xs ys → Good new more fresh
+good_is {cs} {new} {xs} {ys} a more fresh b c good =
+    subst (λ z. Good z more fresh) (sym a) (subst (λ z. Good cs z fresh) (sym b) (subst (λ z. Good cs xs z) (sym c) good))
 
--- the lists keep their entries
-pub same_good : (s : HashedStore) (t : Table) → cells t ≡ cells s.table → Kept t s.ids s.slots
-same_good s t e = subst (λ cs. Good cs (take (filled cs) s.ids) (take (filled cs) s.slots)) (sym e) (good_of s)
+-- a table that holds what it held
+pub same_kept : (s : HashedStore) (t : Table) → cells t ≡ cells s.table → Kept t s.entries.items
+same_kept s t e = record { counted = s.counted ∙ ap filled (sym e); good = subst (λ cs. Good cs (ids s.entries.items) (slots s.entries.items)) (sym e) (good_of s) }
 
-pub same_rows : (s : HashedStore) (t : Table) → cells t ≡ cells s.table → rows_in (cells t) (in_use t s.slots) ≡ held s
-same_rows s t e = ap (λ cs. rows_in cs (take (filled cs) s.slots)) e
+pub same_rows : (s : HashedStore) (t : Table) → cells t ≡ cells s.table → rows_in (cells t) (slots s.entries.items) ≡ held s
+same_rows s t e = ap (λ cs. rows_in cs (slots s.entries.items)) e
 
 module _ (s : HashedStore) where
   abbrev cs : List (Option Plain)
   cs = cells s.table
 
-  used_slots : length (in_use s.table s.slots) ≡ filled cs
-  used_slots = length-take-le (filled cs) s.slots (omega (arith, few s.table, s.long))
+  abbrev es : List Entry
+  es = s.entries.items
 
   -- a row that the table refuses
   pub refused : (t : Table) (r : Plain) (why : Refusal) → placing (Err why) (cells t) ≡ puts r cs → (cells t ≡ cs) × (refuse why (held s) ≡ adds 256 r (held s))
@@ -67,75 +72,74 @@ module _ (s : HashedStore) where
   pub put_slot : (t : Table) (r : Plain) (i : ℕ) → placing (Ok i) (cells t) ≡ puts r cs → i < 512
   put_slot t r i told = (free_slot_free r.id cs i (put_told r cs (cells t) i told).free).0
 
-  module _ (t : Table) (r : Plain) (i : ℕ) (told : placing (Ok i) (cells t) ≡ puts r cs) (count at : ℕ) (counted : count ≡ filled cs) (here : at ≡ place r.id (held s)) where
+  module _ (t : Table) (r : Plain) (i : ℕ) (told : placing (Ok i) (cells t) ≡ puts r cs) (at : ℕ) (here : at ≡ place r.id (held s)) where
     absent : holds_id r.id (held s) ≡ false
     absent = holds_found r.id (held s) ∙ ap is_some (absent_at cs _ _ (good_of s) r.id (put_told r cs (cells t) i told).absent)
 
-    pub put_room : (count < 256) × (at ≤ count)
-    put_room = (omega (arith, (put_told r cs (cells t) i told).room), omega (arith, below_le id_of r.id (held s), length_held s))
+    pub put_room : (at ≤ length es) × (length es < 256)
+    put_room = (omega (arith, below_le id_of r.id (held s), length_held s, s.counted), omega (arith, (put_told r cs (cells t) i told).room, s.counted))
 
     free : (i < 512) × (is_some (get_or cs i None) ≡ false)
     free = free_slot_free r.id cs i (put_told r cs (cells t) i told).free
 
-    one_more : filled (cells t) ≡ count + 1
-    one_more = ap filled (put_told r cs (cells t) i told).after ∙ filled_more cs i r (omega (arith, free.0, length_cells s.table)) free.1 ∙ ap (λ n. n + 1) (sym counted)
+    within : i < length cs
+    within = omega (arith, free.0, length_cells s.table)
 
-    used : (xs new : List ℕ) (x : ℕ) → take (count + 1) new ≡ insert (take count xs) at x → in_use t new ≡ insert (in_use s.table xs) (place r.id (held s)) x
-    used xs new x e = ap (λ n. take n new) one_more ∙ e ∙ ap (λ n. insert (take n xs) at x) counted ∙ ap (λ k. insert (in_use s.table xs) k x) here
+    -- its entry is put in at the place of its id
+    module _ (e : Entry) (its : (e.id ≡ r.id) × (e.slot ≡ i)) (new : List Entry) (put : new ≡ insert es at e) (long : length new ≡ length es + 1) where
+      new_ids : ids new ≡ insert (ids es) (place r.id (held s)) r.id
+      new_ids = ap ids put ∙ map_inserted (λ (z : Entry). z.id) es at e ∙ ap (λ k. insert (ids es) k e.id) here ∙ ap (insert (ids es) (place r.id (held s))) its.0
 
-    module _ (slots : List ℕ) (new-slots : take (count + 1) slots ≡ insert (take count s.slots) at i) where
-      pub put_good : (ids : List ℕ) → take (count + 1) ids ≡ insert (take count s.ids) at r.id → Kept t ids slots
-      put_good ids new-ids =
-          good_is (put_told r cs (cells t) i told).after _ _ (used s.ids ids r.id new-ids) (used s.slots slots i new-slots)
-          (good_put cs _ _ (good_of s) r i free.1 (omega (arith, free.0, length_cells s.table)) absent)
+      new_slots : slots new ≡ insert (slots es) (place r.id (held s)) i
+      new_slots = ap slots put ∙ map_inserted (λ (z : Entry). z.slot) es at e ∙ ap (λ k. insert (slots es) k e.slot) here ∙ ap (insert (slots es) (place r.id (held s))) its.1
 
-      put_rows : rows_in (cells t) (in_use t slots) ≡ placed r (held s)
-      put_rows =
-          ap (λ z. rows_in z (in_use t slots)) (put_told r cs (cells t) i told).after ∙ ap (rows_in (set cs i (Some r))) (used s.slots slots i new-slots)
-          ∙ rows_put cs _ _ (good_of s) r i free.1 (omega (arith, free.0, length_cells s.table)) absent
+      pub put_kept : Kept t new
+      put_kept = record {
+        counted = omega (arith, long, s.counted, ap filled (put_told r cs (cells t) i told).after, filled_more cs i r within free.1);
+        good = good_is (put_told r cs (cells t) i told).after _ _ new_ids new_slots (good_put cs _ _ (good_of s) r i free.1 within absent);
+      }
 
-      pub put_done : accept (rows_in (cells t) (in_use t slots)) ≡ adds 256 r (held s)
-      put_done = ap accept put_rows ∙ adds_done 256 r (held s) absent (omega (arith, length_held s, (put_told r cs (cells t) i told).room))
+      pub put_done : accept (rows_in (cells t) (slots new)) ≡ adds 256 r (held s)
+      put_done =
+          ap accept (ap (λ z. rows_in z (slots new)) (put_told r cs (cells t) i told).after ∙ ap (rows_in (set cs i (Some r))) new_slots
+          ∙ rows_put cs _ _ (good_of s) r i free.1 within absent)
+          ∙ adds_done 256 r (held s) absent (omega (arith, length_held s, (put_told r cs (cells t) i told).room))
 
   module _ (t : Table) (id i : ℕ) (found : slot_of id cs ≡ Some i) where
     there : get_or cs i None ≡ Some (row_in cs i)
     there = row_there cs i (has_some id (get_or cs i None) (slot_of_has id cs i found))
 
-    within : i < length cs
-    within = slot_within cs _ _ (good_of s) id i found
+    inside : i < length cs
+    inside = slot_within cs _ _ (good_of s) id i found
 
     -- a row that is given another end
     module _ (e : ℕ) (told : cells t ≡ set cs i (Some (with_end e (row_in cs i)))) where
-      same_count : filled (cells t) ≡ filled cs
-      same_count = ap filled told ∙ filled_same cs i _ _ within there
+      pub end_kept : Kept t es
+      end_kept = record {
+        counted = s.counted ∙ sym (ap filled told ∙ filled_same cs i _ _ inside there);
+        good = good_is told _ _ refl refl (good_end cs _ _ (good_of s) id i found e);
+      }
 
-      pub end_good : Kept t s.ids s.slots
-      end_good = good_is told _ _ (ap (λ n. take n s.ids) same_count) (ap (λ n. take n s.slots) same_count) (good_end cs _ _ (good_of s) id i found e)
-
-      pub end_rows : rows_in (cells t) (in_use t s.slots) ≡ end_set id e (held s)
-      end_rows =
-          ap (λ z. rows_in z (in_use t s.slots)) told ∙ ap (λ n. rows_in (set cs i (Some (with_end e (row_in cs i)))) (take n s.slots)) same_count
-          ∙ rows_end cs _ _ (good_of s) id i found e
+      pub end_rows : rows_in (cells t) (slots es) ≡ end_set id e (held s)
+      end_rows = ap (λ z. rows_in z (slots es)) told ∙ rows_end cs _ _ (good_of s) id i found e
 
     -- a row that goes
-    module _ (told : cells t ≡ set cs i None) (count at : ℕ) (counted : count ≡ filled cs) (here : at ≡ place id (held s)) where
+    module _ (told : cells t ≡ set cs i None) (at : ℕ) (here : at ≡ place id (held s)) where
       lone : (j : ℕ) → has_id id (get_or cs j None) ≡ true → j ≡ i
       lone j h = alone s.table j i id h (slot_of_has id cs i found)
 
-      pub cut_room : (count ≤ 256) × (at < count)
-      cut_room = (omega (arith, few s.table), omega (arith, place_within cs _ _ (good_of s) id i found lone, used_slots))
+      pub cut_room : at < length es
+      cut_room = omega (arith, place_within cs _ _ (good_of s) id i found lone, length-map es (λ (z : Entry). z.slot))
 
-      one_less : filled (cells t) ≡ count - 1
-      one_less = let less = filled_less cs i _ within there in let same = ap filled told in omega arith
+      module _ (new : List Entry) (cut : new ≡ remove es at) (long : length new + 1 ≡ length es) where
+        left_slots : slots new ≡ remove (slots es) (place id (held s))
+        left_slots = ap slots cut ∙ map_removed (λ (z : Entry). z.slot) es at ∙ ap (remove (slots es)) here
 
-      used_cut : (xs new : List ℕ) → take (count - 1) new ≡ remove (take count xs) at → in_use t new ≡ remove (in_use s.table xs) (place id (held s))
-      used_cut xs new e = ap (λ n. take n new) one_less ∙ e ∙ ap (λ n. remove (take n xs) at) counted ∙ ap (remove (in_use s.table xs)) here
+        pub cut_kept : Kept t new
+        cut_kept = record {
+          counted = omega (arith, long, s.counted, ap filled told, filled_less cs i _ inside there);
+          good = good_is told _ _ (ap ids cut ∙ map_removed (λ (z : Entry). z.id) es at ∙ ap (remove (ids es)) here) left_slots (good_cut cs _ _ (good_of s) id i found lone);
+        }
 
-      module _ (slots : List ℕ) (new-slots : take (count - 1) slots ≡ remove (take count s.slots) at) where
-        pub cut_good : (ids : List ℕ) → take (count - 1) ids ≡ remove (take count s.ids) at → Kept t ids slots
-        cut_good ids new-ids = good_is told _ _ (used_cut s.ids ids new-ids) (used_cut s.slots slots new-slots) (good_cut cs _ _ (good_of s) id i found lone)
-
-        pub cut_rows : rows_in (cells t) (in_use t slots) ≡ without id (held s)
-        cut_rows =
-            ap (λ z. rows_in z (in_use t slots)) told ∙ ap (rows_in (set cs i None)) (used_cut s.slots slots new-slots)
-            ∙ rows_cut cs _ _ (good_of s) id i found lone
+        pub cut_rows : rows_in (cells t) (slots new) ≡ without id (held s)
+        cut_rows = ap (λ z. rows_in z (slots new)) told ∙ ap (rows_in (set cs i None)) left_slots ∙ rows_cut cs _ _ (good_of s) id i found lone

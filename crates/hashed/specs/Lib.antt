@@ -1,7 +1,3 @@
 pub mod Listing
 pub mod Model
-pub mod State
-pub mod Rising
-pub mod Changes
-pub mod Listed
-pub mod Held
+pub mod Laws

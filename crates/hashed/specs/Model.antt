@@ -4,7 +4,7 @@ use Rattle.std.specs.Prelude.{List}
 use Rattle.rows.specs.Rows.{Plain}
 use Rattle.tables.specs.Tables.{cells}
 use Rattle.hashed.specs.declared.store.HashedStore.{HashedStore}
-use Rattle.hashed.specs.Listing.{in_use, rows_in}
+use Rattle.hashed.specs.Listing.{slots, rows_in}
 
 abbrev pub held : HashedStore → List Plain
-held s = rows_in (cells s.table) (in_use s.table s.slots)
+held s = rows_in (cells s.table) (slots s.entries.items)

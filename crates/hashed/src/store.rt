@@ -1,9 +1,14 @@
-// A hashed store: the rows in a table, and their ids and slots in rising id order.
-ghost use Rattle.std.specs.Prelude.{◌≡◌, ◌≤◌, true, map, length};
+// A hashed store: the rows in a table, and an entry for each in rising id order.
+ghost use Rattle.std.specs.Prelude.{◌≡◌, ◌≤◌, map, length};
+ghost use Rattle.receipts.specs.Stores.{Rising};
 ghost use Rattle.stores.specs.Places.{id_of};
+ghost use Rattle.stores.proofs.Order.{Rising-prop};
+ghost use Rattle.tables.specs.Cells.{filled};
 ghost use Rattle.tables.specs.Tables.{cells, deleted};
-ghost use Rattle.hashed.specs.Listing.{in_use, rows_in, Matched, in_order};
+ghost use Rattle.hashed.specs.Listing.{ids, slots, rows_in, Matched};
 
+use crate::entry::Entry;
+use arrayvec::ArrayVec;
 use tables::table::{CAPACITY, Table};
 
 pub mod calls;
@@ -11,19 +16,16 @@ pub mod calls;
 // How many slots may be deleted: with 256 rows at most, 128 of the 512 slots are then empty, and a search ends at each.
 const MOST_REMOVALS: usize = 128;
 
-// Behind an entry for each row, `ids` and `slots` mean nothing. `removals` counts the rows that went since the table was
-// built.
-#[derive(Clone, Copy)]
+// `removals` counts the rows that went since the table was built.
+#[derive(Drop)]
 pub struct HashedStore {
     table: Table,
-    ids: [u32; CAPACITY],
-    slots: [u16; CAPACITY],
+    entries: ArrayVec<Entry, CAPACITY>,
     removals: usize,
-    ghost wide: { length ids ≡ 256 },
-    ghost long: { length slots ≡ 256 },
-    ghost named: { in_use table ids ≡ map id_of (rows_in (cells table) (in_use table slots)) },
-    ghost ordered: { in_order (in_use table ids) ≡ true },
-    ghost matched: { Matched (cells table) (in_use table slots) },
+    ghost counted: { length entries.items ≡ filled (cells table) },
+    ghost named: { ids entries.items ≡ map id_of (rows_in (cells table) (slots entries.items)) },
+    ghost rising: { Rising (rows_in (cells table) (slots entries.items)) } by { Rising-prop (rows_in (cells table) (slots entries.items)) },
+    ghost matched: { Matched (cells table) (slots entries.items) },
     ghost worn: { deleted table ≤ removals },
     ghost recent: { removals ≤ 128 },
 }

@@ -1,4 +1,6 @@
 // A list of rows in the order in which they came: the plainest thing that can answer a store's calls.
+ghost use Rattle.std.specs.Prelude.{◌<◌, vec_len, IfSome};
+
 use refusals::refusal::Refusal;
 use rows::row::PlainRow;
 use rows::span::Span;
@@ -23,45 +25,29 @@ impl Naive {
     }
 
     pub(crate) fn get(&self, id: u32) -> Option<PlainRow> {
-        for row in self.rows.iter() {
-            if row.id == id {
-                return Some(*row);
-            }
-        }
-        None
+        self.rows.iter().find(|row| row.id == id).copied()
     }
 
     // The least of the ids that are not below `id`, by looking at each row.
     pub(crate) fn first_from(&self, id: u32) -> Option<PlainRow> {
-        let mut best: Option<PlainRow> = None;
-        for row in self.rows.iter() {
-            if row.id >= id {
-                let closer = match best {
-                    None => true,
-                    Some(other) => row.id < other.id,
-                };
-                if closer {
-                    best = Some(*row);
-                }
-            }
-        }
-        best
+        self.rows
+            .iter()
+            .filter(|row| row.id >= id)
+            .min_by_key(|row| row.id)
+            .copied()
     }
 
     // The row that has as many smaller ids beside it as `place` says.
     pub(crate) fn row_at(&self, place: usize) -> Option<PlainRow> {
-        for row in self.rows.iter() {
-            let mut smaller = 0usize;
-            for other in self.rows.iter() {
-                if other.id < row.id {
-                    smaller = smaller.saturating_add(1);
-                }
-            }
-            if smaller == place {
-                return Some(*row);
-            }
-        }
-        None
+        self.rows
+            .iter()
+            .find(|row| self.smaller(row.id) == place)
+            .copied()
+    }
+
+    // How many ids are below `id`.
+    fn smaller(&self, id: u32) -> usize {
+        self.rows.iter().filter(|row| row.id < id).count()
     }
 
     pub(crate) fn add(&mut self, row: PlainRow) -> Result<Result<(), Refusal>, AllocError> {
@@ -76,45 +62,31 @@ impl Naive {
     }
 
     pub(crate) fn set_end(&mut self, id: u32, end: u32) -> Result<(), Refusal> {
-        for i in 0..self.rows.len() {
-            let row = self.rows[i];
-            if row.id == id {
-                let start = row.span.start();
-                if start >= end || (end > 4_000_000_000 && end != 4_294_967_295) {
-                    return Err(Refusal::BadTime);
-                }
-                let span = Span::new(start, end)?;
-                self.rows[i] = PlainRow {
-                    id,
-                    span,
-                    key: row.key,
-                    value: row.value,
-                };
-                return Ok(());
-            }
+        let place = self.place_of(id).ok_or(Refusal::NoSuchRow)?;
+        let start = self.rows[place].span.start();
+        if start >= end || (end > 4_000_000_000 && end != 4_294_967_295) {
+            return Err(Refusal::BadTime);
         }
-        Err(Refusal::NoSuchRow)
+        self.rows[place].span = Span::new(start, end)?;
+        Ok(())
     }
 
     pub(crate) fn remove(&mut self, id: u32) -> Result<(), Refusal> {
-        for i in 0..self.rows.len() {
-            if self.rows[i].id == id {
-                let _ = self.rows.remove(i);
-                return Ok(());
-            }
-        }
-        Err(Refusal::NoSuchRow)
+        let place = self.place_of(id).ok_or(Refusal::NoSuchRow)?;
+        self.rows.remove(place);
+        Ok(())
     }
 
-    pub(crate) fn purge(&mut self, heap: Global, below: u32) -> Result<usize, AllocError> {
-        let mut kept = Vec::new(heap);
-        for row in self.rows.iter() {
-            if row.span.end() >= below {
-                kept.push(*row)?;
-            }
-        }
-        let gone = self.rows.len().saturating_sub(kept.len());
-        self.rows = kept;
-        Ok(gone)
+    // How many rows go.
+    pub(crate) fn purge(&mut self, below: u32) -> usize {
+        let before = self.rows.len();
+        self.rows.retain(|row| row.span.end() >= below);
+        before - self.rows.len()
+    }
+
+    fn place_of(&self, id: u32) -> Option<usize>
+        ensures { IfSome result (λ place. place < vec_len self.now.rows) }
+    {
+        self.rows.iter().position(|row| row.id == id)
     }
 }

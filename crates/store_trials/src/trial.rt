@@ -26,7 +26,6 @@ const SHARED: [u32; 24] = [
 
 #[derive(Drop)]
 pub(crate) struct Trial<S> {
-    heap: Global,
     store: S,
     naive: Naive,
     draws: Draws,
@@ -39,7 +38,6 @@ pub(crate) struct Trial<S> {
 impl<S: Store + Drop> Trial<S> {
     pub(crate) fn new(heap: Global, seed: u32) -> Trial<S> {
         Trial {
-            heap,
             store: S::new(),
             naive: Naive::new(heap, S::most_rows()),
             draws: Draws::new(seed),
@@ -59,7 +57,7 @@ impl<S: Store + Drop> Trial<S> {
             20..=23 => self.gets(),
             24..=26 => self.finds_first(),
             27..=30 => self.reads_place(),
-            _ => self.purges()?,
+            _ => self.purges(),
         };
         if same && self.store.count() == self.naive.count() {
             self.agreed = self.agreed.saturating_add(1);
@@ -141,14 +139,14 @@ impl<S: Store + Drop> Trial<S> {
     }
 
     // The clock goes on, so that now and then many rows go.
-    fn purges(&mut self) -> Result<bool, AllocError> {
+    fn purges(&mut self) -> bool {
         self.clock = self
             .clock
             .saturating_add(self.draws.below(20))
             .min(3_000_000_000);
         let below = self.clock.saturating_add(self.draws.below(100));
         let ours = self.store.purge(below).count;
-        let theirs = self.naive.purge(self.heap, below)?;
-        Ok(ours == theirs)
+        let theirs = self.naive.purge(below);
+        ours == theirs
     }
 }

@@ -7,5 +7,4 @@ pub mod Lengths
 pub mod Outcomes
 pub mod Plains
 pub mod Spans
-pub mod Shifts
 pub mod Walks

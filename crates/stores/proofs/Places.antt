@@ -78,17 +78,6 @@ holds_place id m h = holds_found id m ∙ ap is_some (found_place id m h _ refl)
     some_of None = refl
     some_of (Some x) = by_test x (eqb x.id id)
 
--- a search told the place k, and whether the row there has the id
-module _ (id k : ℕ) (m : List Plain) (up : Rising m) (at : k ≡ place id m) where
-  pub held_here : (b : Bool) → b ≡ has_id id (nth_row k m) → holds_id id m ≡ b
-  held_here b h = holds_place id m up ∙ ap (λ n. has_id id (nth_row n m)) (sym at) ∙ sym h
-
-  pub found_here : (x : Plain) → true ≡ has_id id (nth_row k m) → nth_row k m ≡ Some x → found id m ≡ Some x
-  found_here x h e = found_place id m up (nth_row k m) (ap (λ n. nth_row n m) at) ∙ cond-true _ _ _ (sym h) ∙ e
-
-  pub found_none : false ≡ has_id id (nth_row k m) → found id m ≡ None
-  found_none h = found_place id m up (nth_row k m) (ap (λ n. nth_row n m) at) ∙ cond-false _ _ _ (sym h)
-
 -- a row with a lower id stands at each place in front of another
 pub rises_apart : (m : List Plain) → Rising m → (i j : ℕ) (d : Plain) → i < j → j < length m → id_of (get_or m i d) < id_of (get_or m j d)
 rises_apart [] h i j d l lt = absurd (omega arith)

@@ -13,14 +13,6 @@ pub trait Identified {
         ensures { result ≡ number self.now };
 }
 
-impl Identified for u32 {
-    ghost number = { λ id. id };
-
-    fn id(&self) -> u32 {
-        *self
-    }
-}
-
 impl Identified for PlainRow {
     ghost number = { λ row. row.id };
 

@@ -7,7 +7,7 @@ use Rattle.rows.specs.Rows.{Plain, plain}
 use Rattle.stores.specs.Told.{seen}
 use Rattle.stores.specs.Places.{has_id}
 use Rattle.tables.specs.declared.slot.Slot.{Slot}
-use Rattle.tables.specs.declared.slot.Slot.TheVariants.{Empty, Deleted, Full}
+use Rattle.tables.specs.declared.slot.Slot.TheVariants.{Empty}
 use Rattle.tables.specs.Cells.{behind, slot_of}
 use Rattle.tables.specs.Slots.{cell, is_slot}
 
@@ -34,14 +34,6 @@ read_at slots i d s within e = get_or_default slots i Empty d within ∙ e
 -- the same where the slot's number was told otherwise
 pub read_here : (slots : List Slot) (k i : ℕ) (s : Slot) → k ≡ i → i < length slots → s ≡ get_or slots k s → get_or slots i Empty ≡ s
 read_here slots k i s same within e = read_at slots i s s within (ap (λ j. get_or slots j s) (sym same) ∙ sym e)
-
-pub read_cell : (slots : List Slot) (i : ℕ) (d s : Slot) → i < length slots → get_or slots i d ≡ s → get_or (map cell slots) i None ≡ cell s
-read_cell slots i d s within e = cell_at slots i ∙ ap cell (read_at slots i d s within e)
-
-pub no_row : (s : Slot) → ((r : PlainRow) → s ≡ Full r → ⊥) → cell s ≡ None
-no_row Empty h = refl
-no_row Deleted h = refl
-no_row (Full r) h = absurd (h r refl)
 
 -- what a question about a slot told
 pub seen_some : (o : Option PlainRow) (c : Option Plain) → seen o ≡ c → is_some o ≡ true → (r : Plain) × (c ≡ Some r)

@@ -1,51 +1,32 @@
 // The calls of a hashed store: an id leads to its row by a hash, and to its place by binary search.
-ghost use Rattle.std.specs.Prelude.{◌≡◌, ◌+◌, ◌-◌, ◌<◌, ◌≤◌, [], length, take, Some};
-ghost use Rattle.std.specs.List.{insert, remove};
+ghost use Rattle.std.specs.Prelude.{◌≡◌, ◌<◌, [], Some};
+ghost use Rattle.std.proofs.Common.{lit≤};
 ghost use Rattle.rows.specs.Rows.{plain};
 ghost use Rattle.receipts.specs.Stores.{adds, without, kept};
 ghost use Rattle.stores.specs.Told.{outcome};
 ghost use Rattle.stores.specs.Places.{place};
 ghost use Rattle.tables.specs.Cells.{slot_of};
 ghost use Rattle.tables.specs.Tables.{cells};
+ghost use Rattle.hashed.specs.Listing.{slots};
 ghost use Rattle.hashed.specs.Model.{held};
-ghost use Rattle.std.proofs.Common.{arith, lit≤};
-ghost use Rattle.hashed.specs.State;
-ghost use Rattle.hashed.specs.State.{length_held, good_of, numbered_rows, standing_rows};
-ghost use Rattle.hashed.specs.Listing.{in_use};
+ghost use Rattle.hashed.specs.Laws.{within_held, numbered_rows, standing_rows};
 
+use crate::entry::Entry;
 use crate::store::{HashedStore, MOST_REMOVALS};
+use arrayvec::ArrayVec;
 use refusals::refusal::Refusal;
 use rows::row::PlainRow;
 use rows::span::Span;
-use stores::search::{Identified, place_of};
+use stores::search::place_of;
 use stores::store::{Purged, Store};
 use tables::table::{CAPACITY, Table};
-
-// Puts an item at a place among the first `count`.
-fn put<T: Copy>(items: &mut [T], count: usize, place: usize, item: T)
-    requires room { count < length items.old }
-    requires within { place ≤ count }
-    ensures { take (count + 1) items.new ≡ insert (take count items.old) place item }
-{
-    items.copy_within(place..count, place + 1);
-    items[place] = item;
-}
-
-// Takes the item at a place away from the first `count`.
-fn cut<T: Copy>(items: &mut [T], count: usize, place: usize)
-    requires room { count ≤ length items.old }
-    requires within { place < count }
-    ensures { take (count - 1) items.new ≡ remove (take count items.old) place }
-{
-    items.copy_within(place + 1..count, place);
-}
 
 impl HashedStore {
     // The place of an id, whether or not a row has it.
     fn place(&self, id: u32) -> usize
         ensures { result ≡ place id (held self.now) }
     {
-        place_of(&self.ids[0..self.table.count()], id)
+        place_of(&self.entries, id)
     }
 
     // A store without rows.
@@ -55,8 +36,7 @@ impl HashedStore {
     {
         HashedStore {
             table: Table::new(),
-            ids: [0; CAPACITY],
-            slots: [0; CAPACITY],
+            entries: ArrayVec::new(),
             removals: 0,
         }
     }
@@ -67,10 +47,8 @@ impl HashedStore {
         ensures told { outcome result (held self.new) ≡ adds 256 (plain row) (held self.old) }
         ensures removals { self.new.removals ≡ self.old.removals }
     {
-        let count = self.table.count();
-        let slot = self.table.put(row)?;
-        put(&mut self.ids, count, at, row.id);
-        put(&mut self.slots, count, at, slot as u16);
+        let slot = self.table.put(row)? as u16;
+        self.entries.insert(at, Entry { id: row.id, slot });
         Ok(())
     }
 
@@ -81,10 +59,8 @@ impl HashedStore {
         ensures { held self.new ≡ without id (held self.old) }
     {
         let place = self.place(id);
-        let count = self.table.count();
         self.table.clear(slot);
-        cut(&mut self.ids, count, place);
-        cut(&mut self.slots, count, place);
+        self.entries.remove(place);
         self.removals += 1;
     }
 
@@ -94,15 +70,11 @@ impl HashedStore {
         ensures removals { result.removals ≡ 0 }
     {
         let mut fresh = HashedStore::empty();
-        for place in 0..self.table.count() {
-            match self.row_at(place) {
-                None => {}
-                Some(row) => {
-                    if row.span.end() >= below {
-                        let count = fresh.table.count();
-                        let _ = fresh.insert(count, row);
-                    }
-                }
+        for entry in self.entries.as_slice() {
+            let row = self.table.row_in(entry.slot as usize).unwrap();
+            if row.span.end() >= below {
+                let last = fresh.entries.len();
+                let _ = fresh.insert(last, row);
             }
         }
         fresh
@@ -130,13 +102,13 @@ impl Store for HashedStore {
 
     ghost few = { lit≤ tt };
 
-    ghost within = { λ s. omega (arith, length_held s, State.few s.table) };
+    ghost within = { within_held };
 
-    ghost rising = { λ s. (good_of s).rising };
+    ghost rising = { λ s. s.rising };
 
-    ghost numbered = { λ s. numbered_rows s.table (in_use s.table s.slots) };
+    ghost numbered = { λ s. numbered_rows s.table (slots s.entries.items) };
 
-    ghost standing = { λ s. standing_rows s.table (in_use s.table s.slots) };
+    ghost standing = { λ s. standing_rows s.table (slots s.entries.items) };
 
     fn new() -> HashedStore {
         HashedStore::empty()
@@ -147,7 +119,7 @@ impl Store for HashedStore {
     }
 
     fn count(&self) -> usize {
-        self.table.count()
+        self.entries.len()
     }
 
     fn get(&self, id: u32) -> Option<PlainRow> {
@@ -160,11 +132,8 @@ impl Store for HashedStore {
     }
 
     fn row_at(&self, place: usize) -> Option<PlainRow> {
-        if place < self.table.count() {
-            self.table.row_in(self.slots[place] as usize)
-        } else {
-            None
-        }
+        let slot = self.entries.get(place)?.slot;
+        self.table.row_in(slot as usize)
     }
 
     fn add(&mut self, id: u32, span: Span, key: u32, value: u32) -> Result<(), Refusal> {
@@ -181,12 +150,8 @@ impl Store for HashedStore {
     }
 
     fn set_end(&mut self, id: u32, end: u32) -> Result<(), Refusal> {
-        let Some(slot) = self.table.slot_of(id) else {
-            return Err(Refusal::NoSuchRow);
-        };
-        let Some(row) = self.table.row_in(slot) else {
-            return Err(Refusal::NoSuchRow);
-        };
+        let slot = self.table.slot_of(id).ok_or(Refusal::NoSuchRow)?;
+        let row = self.table.row_in(slot).ok_or(Refusal::NoSuchRow)?;
         let span = Span::new(row.span.start(), end)?;
         self.table.set_span(slot, span);
         Ok(())
@@ -194,18 +159,16 @@ impl Store for HashedStore {
 
     fn remove(&mut self, id: u32) -> Result<(), Refusal> {
         self.refresh();
-        let Some(slot) = self.table.slot_of(id) else {
-            return Err(Refusal::NoSuchRow);
-        };
+        let slot = self.table.slot_of(id).ok_or(Refusal::NoSuchRow)?;
         self.take_away(id, slot);
         Ok(())
     }
 
     fn purge(&mut self, below: u32) -> Purged {
-        let before = self.table.count();
+        let before = self.count();
         *self = self.rebuilt(below);
         Purged {
-            count: before - self.table.count(),
+            count: before - self.count(),
         }
     }
 }

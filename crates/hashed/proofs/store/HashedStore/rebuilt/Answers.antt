@@ -1,41 +1,47 @@
-use Rattle.std.proofs.Common.{◌<◌, length, None, sym, ap, ◌∙◌, arith}
+use Rattle.std.proofs.Common.{◌≡◌, ◌<◌, length, Some, sym, ap, ◌∙◌, arith}
 use Rattle.std.proofs.lemmas.List.{take_all}
 use Rattle.rows.specs.Rows.{plain}
-use Rattle.receipts.specs.Stores.{kept}
-use Rattle.stores.proofs.Places.{nth_get_or}
-use Rattle.tables.proofs.Found.{none_some}
+use Rattle.receipts.specs.Stores.{nth_row, kept}
+use Rattle.stores.specs.Told.{seen}
 use Rattle.hashed.specs.declared.store.HashedStore.{HashedStore}
-use Rattle.hashed.specs.Listing.{or_blank}
+use Rattle.hashed.specs.Laws.{length_held, within_held}
 use Rattle.hashed.specs.Model.{held}
 use Rattle.hashed.proofs.Purges.{gone_more, kept_place, kept_added}
-use Rattle.hashed.specs.State.{good_of, few, length_held}
+use Rattle.hashed.proofs.State.{nth_told, there_told}
 use Rattle.hashed.proofs.store.HashedStore.rebuilt.Goals as goal
-use Rattle.hashed.proofs.store.HashedStore.rebuilt.Goals.{in-None, in-Some+then-end-below, in-Some+else-end-below}
+use Rattle.hashed.proofs.store.HashedStore.rebuilt.Goals.{then-end-below, else-end-below}
+
+pub unwrap-row-requires : goal.unwrap-row-requires
+unwrap-row-requires c = there_told c.args.self.now _ c.as_slice-entry-items.ensures.value c.loop-entry.entry-index _ c.loop-entry-test.true _ c.row_in.ensures
 
 pub insert-requires : goal.insert-requires
 insert-requires c =
     let s = c.args.self.now in
-    c.count-count.ensures ∙ sym (length_held c.loop-place.fresh)
-    ∙ kept_place c.args.below c.loop-place.place (held s) (plain c.in-Some.row) (omega (arith, length_held s, c.count-place-end.ensures)) c.in-Some.ensures
-    (good_of s).rising (omega (arith, c.end.ensures)) (held c.loop-place.fresh) c.loop-place.invariant.0
+    let i = c.loop-entry.entry-index in
+    let is = c.as_slice-entry-items.ensures.value in
+    let read : Some (plain c.unwrap-row.result) ≡ nth_row i (held s) = sym (ap seen c.unwrap-row.ensures) ∙ c.row_in.ensures ∙ sym (nth_told s _ is i _ c.loop-entry-test.true) in
+    c.len-last.ensures.value ∙ c.loop-entry.fresh.counted ∙ sym (length_held c.loop-entry.fresh)
+    ∙ kept_place c.args.below i (held s) (plain c.unwrap-row.result) (omega (arith, length_held s, s.counted, ap length is, c.loop-entry-test.true)) read
+    s.rising (omega (arith, c.end.ensures, c.if-end-below.true)) (held c.loop-entry.fresh) c.loop-entry.invariant.0
 
-pub loop-place-preserved : goal.loop-place-preserved
-loop-place-preserved c =
+pub loop-entry-preserved : goal.loop-entry-preserved
+loop-entry-preserved c =
     let s = c.args.self.now in
-    let i = c.loop-place.place in
-    let within : i < length (held s) = omega (arith, length_held s, c.count-place-end.ensures) in
-    elim c.match-row_at.branch [
-      | in-None w ↦ absurd (none_some _ (w.in-None.ensures ∙ nth_get_or i (held s) (or_blank None) within))
-      | in-Some+then-end-below w ↦ (
+    let i = c.loop-entry.entry-index in
+    let is = c.as_slice-entry-items.ensures.value in
+    let within : i < length (held s) = omega (arith, length_held s, s.counted, ap length is, c.loop-entry-test.true) in
+    let read : Some (plain c.unwrap-row.result) ≡ nth_row i (held s) = sym (ap seen c.unwrap-row.ensures) ∙ c.row_in.ensures ∙ sym (nth_told s _ is i _ c.loop-entry-test.true) in
+    elim c.if-end-below.branch [
+      | then-end-below w ↦ (
         ap held w.fresh-is
-            ∙ kept_added c.args.below i (held s) (plain w.in-Some.row) within w.in-Some.ensures (good_of s).rising (omega (arith, w.end.ensures, w.if-end-below.true))
-            (held c.loop-place.fresh) c.loop-place.invariant.0 (omega (arith, length_held s, few s.table)) _ _ w.insert.ensures.told,
-        ap (λ (z : HashedStore). z.removals) w.fresh-is ∙ w.insert.ensures.removals ∙ c.loop-place.invariant.1,
+            ∙ kept_added c.args.below i (held s) (plain c.unwrap-row.result) within read s.rising (omega (arith, c.end.ensures, w.if-end-below.true))
+            (held c.loop-entry.fresh) c.loop-entry.invariant.0 (within_held s) _ _ w.insert.ensures.told,
+        ap (λ (z : HashedStore). z.removals) w.fresh-is ∙ w.insert.ensures.removals ∙ c.loop-entry.invariant.1,
       )
-      | in-Some+else-end-below w ↦ (
-        ap held w.fresh-is ∙ c.loop-place.invariant.0
-            ∙ sym (gone_more c.args.below i (held s) (plain w.in-Some.row) within w.in-Some.ensures (omega (arith, w.end.ensures, w.if-end-below.false))),
-        ap (λ (z : HashedStore). z.removals) w.fresh-is ∙ c.loop-place.invariant.1,
+      | else-end-below w ↦ (
+        ap held w.fresh-is ∙ c.loop-entry.invariant.0
+            ∙ sym (gone_more c.args.below i (held s) (plain c.unwrap-row.result) within read (omega (arith, c.end.ensures, w.if-end-below.false))),
+        ap (λ (z : HashedStore). z.removals) w.fresh-is ∙ c.loop-entry.invariant.1,
       )
     ]
 
@@ -43,6 +49,7 @@ pub returns : goal.returns
 returns c =
     let s = c.args.self.now in
     record {
-      rows = c.loop-place.invariant.0 ∙ ap (kept c.args.below) (take_all c.loop-place.place (held s) (omega (arith, length_held s, c.count-place-end.ensures)));
-      removals = c.loop-place.invariant.1;
+      rows = c.loop-entry.invariant.0
+          ∙ ap (kept c.args.below) (take_all c.loop-entry.entry-index (held s) (omega (arith, length_held s, s.counted, ap length c.as_slice-entry-items.ensures.value, c.loop-entry-test.false)));
+      removals = c.loop-entry.invariant.1;
     }

@@ -1,8 +1,8 @@
 use Rattle.std.proofs.Common.{sym, ap, ◌∙◌}
 use Rattle.stores.specs.Told.{seen}
 use Rattle.tables.specs.Tables.{cells}
-use Rattle.hashed.specs.Changes.{found_at, absent_at}
-use Rattle.hashed.specs.State.{good_of}
+use Rattle.hashed.proofs.Changes.{found_at, absent_at}
+use Rattle.hashed.proofs.State.{good_of}
 use Rattle.hashed.proofs.store.calls.HashedStoreStore.get.Goals as goal
 
 pub returns-in_err-slot : goal.returns-in_err-slot

@@ -1,20 +1,9 @@
--- Listed slots, and lists with an entry put in or taken out.
-use Rattle.std.specs.Prelude.{◌≡◌, ℕ, zero, suc, ◌<◌, Bool, true, false, ◌||◌, List, [], ◌∷◌, ◌++◌, map, length, take, drop, ◌==◌, ◌≢◌, slice_index_or, refl}
+-- Listed slots, with one put in or taken out.
+use Rattle.std.specs.Prelude.{◌≡◌, ℕ, zero, suc, ◌<◌, Bool, true, false, ◌||◌, List, [], ◌∷◌, length, ◌==◌, ◌≢◌, slice_index_or, refl}
 use Rattle.std.proofs.Common.{arith, sym, ap, ◌∙◌}
-use Rattle.std.proofs.lemmas.List.{map-append, take-map, drop-map}
 use Rattle.std.proofs.lemmas.Bool.{ne_eqb, eq-eqb, or_left, or_right}
 use Rattle.std.specs.List.{insert, remove}
 use Rattle.hashed.specs.Listing.{listed}
-
-pub map_inserted : {X Y : Type 0} (f : X → Y) (xs : List X) (k : ℕ) (x : X) → map f (insert xs k x) ≡ insert (map f xs) k (f x)
-map_inserted f xs k x =
-    map-append f (take k xs) (x ∷ drop k xs) ∙ ap (λ z. z ++ f x ∷ map f (drop k xs)) (sym (take-map f k xs))
-    ∙ ap (λ z. take k (map f xs) ++ f x ∷ z) (sym (drop-map f k xs))
-
-pub map_removed : {X Y : Type 0} (f : X → Y) (xs : List X) (k : ℕ) → map f (remove xs k) ≡ remove (map f xs) k
-map_removed f xs k =
-    map-append f (take k xs) (drop (suc k) xs) ∙ ap (λ z. z ++ map f (drop (suc k) xs)) (sym (take-map f k xs))
-    ∙ ap (λ z. take k (map f xs) ++ z) (sym (drop-map f (suc k) xs))
 
 or_swap : (a b c : Bool) → (a || (b || c)) ≡ (b || (a || c))
 or_swap true true c = refl

@@ -1,4 +1,4 @@
--- What a write to the table, with its entry in the lists, leaves of the rows.
+-- What a write to the table, with the entry of the row, leaves of the rows.
 --     Good cs ids slots           the lists tell the rows in the cells: their ids, in rising order, and their slots
 use Rattle.std.specs.Prelude.{◌≡◌, ℕ, ◌<◌, true, false, ◌||◌, ◌≢◌, List, [], ◌∷◌, map, length, get_or, is_some, Some, None, Option, ◌==◌, nat_eq, slice_index_or, slice_set, refl}
 use Rattle.std.proofs.Common.{arith, sym, ap, subst, ◌∙◌, ⊎_elim}
@@ -8,14 +8,14 @@ use Rattle.std.specs.List.{insert, remove}
 use Rattle.rows.specs.Rows.{Plain, with_end}
 use Rattle.receipts.specs.Stores.{Rising, found, nth_row, holds_id, placed, end_set, without}
 use Rattle.stores.specs.Places.{id_of, place, has_id}
-use Rattle.stores.proofs.Edits.{placed_place, without_place}
+use Rattle.stores.proofs.Edits.{map_inserted, map_removed, placed_place, without_place}
 use Rattle.stores.proofs.Order.{rising_placed, rising_without, rising_end_set}
 use Rattle.stores.proofs.Places.{found_above, holds_found, holds_place, nth_get_or, nth_past}
 use Rattle.tables.specs.Cells.{slot_of}
 use Rattle.tables.proofs.Found.{slot_of_has, slot_of_none}
 use Rattle.hashed.specs.Listing.{or_blank, row_in, rows_in, listed, Matched}
-use Rattle.hashed.specs.Listed.{map_inserted, map_removed, listed_inserted, listed_removed, listed_at}
-use Rattle.hashed.specs.Held.{row_there, row_has, has_some, has_row, listed_holds, found_listed, found_none, rows_same, rows_ended}
+use Rattle.hashed.proofs.Listed.{listed_inserted, listed_removed, listed_at}
+use Rattle.hashed.proofs.Held.{row_there, row_has, has_some, has_row, listed_holds, found_listed, found_none, rows_same, rows_ended}
 
 -- the ids after an end is set, and after a row goes
 ids_ended : (id e : ℕ) (m : List Plain) → map id_of (end_set id e m) ≡ map id_of m
