@@ -28,7 +28,7 @@ lines_written (m ∷ ns) n h =
 
 -- a refused outcome is not whole
 never_whole : (r : Refusal) (n : ℕ) (ns : List ℕ) → stopped r n ≡ whole ns → ⊥
-never_whole r n ns e = let f = ap (λ (o : Outcome). o.fault) e in let z : ◌≡◌ {A = ℕ} 0 1 = cc in omega arith
+never_whole r n ns e = let f = ap (λ (o : Outcome). o.fault) e in cc
 
 abbrev OneToALine : List ℕ → List ℕ → Type 0
 OneToALine ns bs = (all_readings ns ≡ true) × (bs ≡ written_lines ns)
@@ -38,7 +38,7 @@ no_line n [] r d e = (refl, refl)
 no_line n (b ∷ bs) (Err x) d e = absurd (never_whole x n [] (sym (lines_refused n (b ∷ bs) x (omega arith) d) ∙ e))
 no_line n (b ∷ bs) (Ok p) d e =
     let some = ap (λ (o : Outcome). o.weighed) (sym (lines_more n (b ∷ bs) p.1 p.0 d) ∙ e) in
-    absurd (let z : ◌≡◌ {A = ℕ} 0 1 = cc in omega arith)
+    absurd (cc)
 
 one_more : (m : ℕ) (ms : List ℕ) (o : Outcome) (bs rest : List ℕ) (w : Weighed) → line_read bs ≡ Ok (w, rest)
     → led (w ∷ []) o ≡ whole (m ∷ ms) → (o ≡ whole ms → OneToALine ms rest) → OneToALine (m ∷ ms) bs
@@ -61,7 +61,7 @@ first_line : (m : ℕ) (ms : List ℕ) (n : ℕ) (bs : List ℕ) (r : Result (We
     → OneToALine (m ∷ ms) bs
 unfolding lines_in lines_from
 first_line m ms n [] (Err x) d e ih =
-    let none = ap (λ (o : Outcome). o.weighed) e in absurd (let z : ◌≡◌ {A = ℕ} 0 1 = cc in omega arith)
+    let none = ap (λ (o : Outcome). o.weighed) e in absurd (cc)
 first_line m ms n (b ∷ bs) (Err x) d e ih = absurd (never_whole x n (m ∷ ms) (sym (lines_refused n (b ∷ bs) x (omega arith) d) ∙ e))
 first_line m ms n bs (Ok p) d e ih =
     one_more m ms (lines_from (n + 1) p.1) bs p.1 p.0 d (sym (lines_more n bs p.1 p.0 d) ∙ e) (ih p.1)

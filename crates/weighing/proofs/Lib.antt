@@ -1,4 +1,3 @@
-pub mod Ended
 pub mod Read
 pub mod Lines
 pub mod Taking

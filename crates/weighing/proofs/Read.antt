@@ -9,14 +9,14 @@ use Rattle.weighing.specs.Lines.{weighed, number_weighed, with_rest, line_end, a
 
 end_parts : (n : ℕ) (bs rest : List ℕ) (w : Weighed) → line_end n bs ≡ Ok (w, rest)
     → (bs ≡ 10 ∷ rest) × (leb n 4095 ≡ true) × (w ≡ weighed n)
-end_parts n [] rest w e = absurd (let z : ◌≡◌ {A = ℕ} 0 1 = cc in omega arith)
+end_parts n [] rest w e = absurd (cc)
 end_parts n (b ∷ bs) rest w e =
     elim (cases_Bool (eqb b 10)) [
-      | inr t ↦ let f = sym (cond-false _ _ _ t) ∙ e in absurd (let z : ◌≡◌ {A = ℕ} 0 1 = cc in omega arith)
+      | inr t ↦ let f = sym (cond-false _ _ _ t) ∙ e in absurd (cc)
       | inl t ↦
           let f : with_rest bs (number_weighed n) ≡ Ok (w, rest) = sym (cond-true _ _ _ t) ∙ e in
           elim (cases_Bool (leb n 4095)) [
-            | inr u ↦ let g = sym (ap (with_rest bs) (cond-false _ _ _ u)) ∙ f in absurd (let z : ◌≡◌ {A = ℕ} 0 1 = cc in omega arith)
+            | inr u ↦ let g = sym (ap (with_rest bs) (cond-false _ _ _ u)) ∙ f in absurd (cc)
             | inl u ↦
                 let g : Ok (weighed n, bs) ≡ Ok (w, rest) = sym (ap (with_rest bs) (cond-true _ _ _ u)) ∙ f in
                 let same : (weighed n, bs) ≡ (w, rest) = cc in
@@ -32,7 +32,7 @@ after_parts bs (Ok p) d rest w e =
     let q = end_parts p.0 p.1 rest w e in
     let number : p.0 ≡ w.number = sym (ap (λ (v : Weighed). v.number) q.2) in
     (d ∙ ap (λ (xs : List ℕ). Ok (p.0, xs)) q.0 ∙ ap (λ (k : ℕ). Ok (k, 10 ∷ rest)) number, sym (ap (λ k. leb k 4095) number) ∙ q.1)
-after_parts bs (Err x) d rest w e = absurd (let z : ◌≡◌ {A = ℕ} 0 1 = cc in omega arith)
+after_parts bs (Err x) d rest w e = absurd (cc)
 
 pub line_parts : (bs rest : List ℕ) (w : Weighed) → line_read bs ≡ Ok (w, rest)
     → (decimal_read bs ≡ Ok (w.number, 10 ∷ rest)) × (leb w.number 4095 ≡ true)

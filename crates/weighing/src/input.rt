@@ -47,9 +47,13 @@ fn weigh_lines(heap: Global, bytes: &[u8]) -> Result<Report, AllocError>
     })
 }
 
-// Weighs the lines, or refuses an input that is too long at its first line.
-fn weigh_input(heap: Global, bytes: &[u8]) -> Result<Report, AllocError>
-    ensures { IfOk result (λ report. outcome report ≡ input_weighed bytes.now) }
+// Weighs an input, as the numbers that it is, one to a line, or refuses one that is too long at its first line. It is
+// weighed with no fault just where it is readings, each printed in decimal with a line feed after it, in at most 65,536
+// bytes.
+#[tactic(auto, using(crate::proofs::Exactness::input_exact))]
+pub fn weigh_all(heap: Global, bytes: &[u8]) -> Result<Report, AllocError>
+    ensures value { IfOk result (λ report. outcome report ≡ input_weighed bytes.now) }
+    ensures exact { InputExact bytes.now }
 {
     if bytes.len() > LONGEST {
         return Ok(Report {
@@ -58,13 +62,4 @@ fn weigh_input(heap: Global, bytes: &[u8]) -> Result<Report, AllocError>
         });
     }
     weigh_lines(heap, bytes)
-}
-
-// Weighs an input, as the numbers that it is, one to a line. It is weighed with no fault just where it is readings, each
-// printed in decimal with a line feed after it, in at most 65,536 bytes.
-pub fn weigh_all(heap: Global, bytes: &[u8]) -> Result<Report, AllocError>
-    ensures value { IfOk result (λ report. outcome report ≡ input_weighed bytes.now) }
-    ensures exact { InputExact bytes.now }
-{
-    weigh_input(heap, bytes)
 }

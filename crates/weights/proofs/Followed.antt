@@ -1,24 +1,17 @@
 -- A table that follows a rise has at each place the weight by that rise.
-use Rattle.std.proofs.Common.{◌≡◌, ℕ, zero, suc, ◌+◌, ◌<◌, Bool, true, false, ◌&&◌, eqb, List, [], ◌∷◌, length, get_or, sym, refl, ap, ◌∙◌, le_of_suc-le-suc, not-suc-le-zero, add-zero, add-suc, suc-add, zero-add, eqb-true}
+use Rattle.std.proofs.Common.{◌≡◌, ℕ, zero, suc, ◌+◌, ◌<◌, true, List, [], ◌∷◌, length, get_or, sym, refl, ap, ◌∙◌, le_of_suc-le-suc, not-suc-le-zero, add-zero, add-suc, suc-add, zero-add, eqb-true}
+use Rattle.std.proofs.lemmas.Bool.{and_parts}
 use Rattle.weights.specs.Grams.{weight_by, follows}
-
-first_true : (a b : Bool) → (a && b) ≡ true → a ≡ true
-first_true true b t = refl
-first_true false b t = t
-
-second_true : (a b : Bool) → (a && b) ≡ true → b ≡ true
-second_true true b t = t
-second_true false b t = cc
 
 followed_from : (rise : ℕ → ℕ) (xs : List ℕ) (i x : ℕ) → x ≡ weight_by rise i → follows rise i x xs ≡ true
     → (k : ℕ) → k < length xs → get_or xs k 0 ≡ weight_by rise (i + k)
 unfolding weight_by follows
 followed_from rise [] i x e t k h = absurd (not-suc-le-zero h)
 followed_from rise (y ∷ ys) i x e t zero h =
-    eqb-true y x (first_true (eqb y x) (follows rise (suc i) (x + rise i) ys) t) ∙ e ∙ ap (weight_by rise) (sym (add-zero i))
+    eqb-true y x (and_parts _ _ t).0 ∙ e ∙ ap (weight_by rise) (sym (add-zero i))
 followed_from rise (y ∷ ys) i x e t (suc k) h =
     followed_from rise ys (suc i) (x + rise i) (ap (λ n. n + rise i) e)
-    (second_true (eqb y x) (follows rise (suc i) (x + rise i) ys) t) k (le_of_suc-le-suc h)
+    (and_parts _ _ t).1 k (le_of_suc-le-suc h)
     ∙ ap (weight_by rise) (suc-add i k ∙ sym (add-suc i k))
 
 pub followed : (rise : ℕ → ℕ) (xs : List ℕ) → follows rise 0 0 xs ≡ true → (k : ℕ) → k < length xs → get_or xs k 0 ≡ weight_by rise k

@@ -1,11 +1,7 @@
-use Rattle.std.proofs.Common.{refl, arith}
-use Rattle.std.proofs.lemmas.Bool.Decides.{nat_tests}
+use Rattle.std.proofs.Common.{refl}
 use Rattle.weights.specs.Grams.{follows}
 use Rattle.weights.proofs.grams_of.Goals as goal
 
-pub entry-requires : goal.entry-requires
+pub entry-requires-clause-rule : goal.entry-requires-clause-rule
 unfolding follows
-entry-requires c = record { rule = refl; size = refl; within = omega arith }
-
-pub returns : goal.returns
-returns c = grind (arith, nat_tests)
+entry-requires-clause-rule c = refl
