@@ -1,15 +1,15 @@
 -- What the laws of row rules say of a row's images before and after a retraction.
-use Rattle.std.proofs.Common.{◌≡◌, ℕ, ◌≤◌, min, true, ◌⊎◌, refl, ⊎_elim, arith}
+use Rattle.std.proofs.Common.{◌≡◌, ℕ, ◌≤◌, min, true, ◌⊎◌, Ok, refl, ⊎_elim, arith}
 use Rattle.std.proofs.lemmas.Bool.{cases_eq}
 use Rattle.std.proofs.lemmas.Bool.Decides.{nat_tests}
 use Rattle.rows.specs.Rows.{Plain, standing, with_end}
 use Rattle.rows.specs.Events.{retraction, timely}
-use Rattle.rewriting.specs.Rules.{Image, refuses, nothing, to, becomes, Rule, spanned, Ends, Keeps}
+use Rattle.rewriting.specs.Rules.{Image, refuses, nothing, to, Rule, spanned, Ends, Keeps}
 use Rattle.rewriting.specs.Layers.{new_image}
 
 -- where c is the latest CTI below, the layer's own is d: 0 at first, and then what the rule makes of c
 abbrev pub Latest : Rule → ℕ → ℕ → Type 0
-Latest f c d = (d ≡ 0) ⊎ (f.advance c ≡ becomes d)
+Latest f c d = (d ≡ 0) ⊎ (f.advance c ≡ Ok d)
 
 -- The images stand; a lone one starts at d or later; two start together, and end together or both at d or later.
 abbrev pub Agree : ℕ → Plain → Image → Image → Type 0

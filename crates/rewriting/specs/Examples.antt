@@ -15,7 +15,7 @@ use Rattle.rows.specs.Rows.{Plain}
 use Rattle.rows.specs.Events.{insert, retraction, cti}
 use Rattle.rows.specs.Times.{forever}
 use Rattle.receipts.specs.Histories.{Entry}
-use Rattle.rewriting.specs.Rules.{refuses, nothing, to, denies, becomes}
+use Rattle.rewriting.specs.Rules.{refuses, nothing, to}
 use Rattle.rewriting.specs.RowRules.{select, shift, set_duration}
 use Rattle.rewriting.specs.Streams.{Stream}
 use Rattle.rewriting.specs.Layers.{layer, pile, rewritten_history}
@@ -59,8 +59,8 @@ Shifting =
     × ((shift 10).image (spanning 3999999991 forever) ≡ refuses OutOfTime)
     × ((shift 10).image (spanning 5 3999999990) ≡ to 15 4000000000)
     × ((shift 10).image (spanning 5 3999999991) ≡ refuses OutOfTime)
-    × ((shift 10).advance 3999999990 ≡ becomes 4000000000)
-    × ((shift 10).advance 3999999991 ≡ denies OutOfTime)
+    × ((shift 10).advance 3999999990 ≡ Ok 4000000000)
+    × ((shift 10).advance 3999999991 ≡ Err OutOfTime)
 
 -- the end that the row had plays no part
 abbrev pub Lasting : Type 0
@@ -68,7 +68,7 @@ Lasting =
     ((set_duration 30).image (spanning 10 forever) ≡ to 10 40)
     × ((set_duration 30).image (spanning 3999999970 3999999980) ≡ to 3999999970 4000000000)
     × ((set_duration 30).image (spanning 3999999971 3999999980) ≡ refuses OutOfTime)
-    × ((set_duration 30).advance 3999999999 ≡ becomes 3999999999)
+    × ((set_duration 30).advance 3999999999 ≡ Ok 3999999999)
 
 -- An insert without an image vanishes, and so does a retraction of its row; what is left keeps its number.
 abbrev pub SelectedLayer : Type 0

@@ -6,7 +6,7 @@
 --     row_image f x               the image of the row x by the rule f, if it has one
 --     images f rows               the images of rows, those without one left out
 --     rewritten_history fs src    the history of the stream src, its rows put through the rules fs, lowest first
-use Rattle.std.specs.Prelude.{ℕ, cond, ◌&&◌, List, [], ◌∷◌, ◌==◌, Option, Some, None, Err}
+use Rattle.std.specs.Prelude.{ℕ, cond, ◌&&◌, List, [], ◌∷◌, ◌==◌, Option, Some, None, Ok, Err, Result}
 use Rattle.std.specs.List.{filter_map}
 use Rattle.refusals.specs.declared.refusal.Refusal.{Refusal}
 use Rattle.refusals.specs.declared.refusal.Refusal.TheVariants.{BadTime}
@@ -15,7 +15,7 @@ use Rattle.rows.specs.Rows.{Plain, with_end}
 use Rattle.rows.specs.Events.{PlainEvent, insert, retraction, cti, timely}
 use Rattle.rows.specs.Times.{whole}
 use Rattle.receipts.specs.Histories.{Entry, events, history}
-use Rattle.rewriting.specs.Rules.{Image, refuses, nothing, to, Advance, denies, becomes, Rule, spanned}
+use Rattle.rewriting.specs.Rules.{Image, refuses, nothing, to, Rule, spanned}
 use Rattle.rewriting.specs.Streams.{Stream, deeper}
 
 pub data Rewritten : Type 0 where
@@ -40,9 +40,9 @@ of_retraction r (to a b) (refuses w) = refused w
 of_retraction r (to a b) nothing = is_now (retraction (spanned r a b) a)
 of_retraction r (to a b) (to c d) = cond (a == c && b == d) vanishes (is_now (retraction (spanned r a b) d))
 
-abbrev pub of_cti : Advance → Rewritten
-of_cti (denies w) = refused w
-of_cti (becomes t) = is_now (cti t)
+abbrev pub of_cti : Result ℕ Refusal → Rewritten
+of_cti (Err w) = refused w
+of_cti (Ok t) = is_now (cti t)
 
 -- the image of the new row: none where it is taken away
 abbrev pub new_image : Rule → Plain → ℕ → Image

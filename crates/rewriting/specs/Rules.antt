@@ -1,11 +1,10 @@
 -- Row rules, and the laws that each of them keeps.
 --     Image                       what a rule makes of a row: a refusal, nothing, or the same id and payload from a start to an end
---     Advance                     what a rule makes of a CTI: a refusal, or another CTI
---     Rule                        a rule: the image of each row, and the CTI that each CTI becomes
+--     Rule                        a rule: the image of each row, and the CTI that each CTI becomes, or a refusal
 --     spanned r a b               the row r from a to b
 --     Keeps f                     the rule f keeps the laws of row rules
 --     AllKeep fs                  so does each of the rules fs
-use Rattle.std.specs.Prelude.{◌≡◌, ℕ, ◌≤◌, true, ◌⊎◌, List, [], ◌∷◌}
+use Rattle.std.specs.Prelude.{◌≡◌, ℕ, ◌≤◌, true, ◌⊎◌, List, [], ◌∷◌, Ok, Result}
 use Rattle.refusals.specs.declared.refusal.Refusal.{Refusal}
 use Rattle.rows.specs.Rows.{Plain, standing, with_end}
 use Rattle.rows.specs.Times.{finite}
@@ -15,13 +14,9 @@ pub data Image : Type 0 where
   nothing : Image
   to : ℕ → ℕ → Image
 
-pub data Advance : Type 0 where
-  denies : Refusal → Advance
-  becomes : ℕ → Advance
-
 pub record Rule : Type 0 where
   pub image : Plain → Image
-  pub advance : ℕ → Advance
+  pub advance : ℕ → Result ℕ Refusal
 
 abbrev pub spanned : Plain → ℕ → ℕ → Plain
 spanned r a b = record { id = r.id; start = a; end = b; key = r.key; value = r.value }
@@ -47,12 +42,12 @@ Ends u (to a b) (to c d) = (b ≡ d) ⊎ ((u ≤ b) × (u ≤ d))
 pub record Keeps (f : Rule) : Type 0 where
   pub starts : (x y : Plain) (a b c d : ℕ) → standing x ≡ true → standing y ≡ true →
       x.start ≡ y.start → x.key ≡ y.key → x.value ≡ y.value → f.image x ≡ to a b → f.image y ≡ to c d → a ≡ c
-  pub later : (x : Plain) (t u a b : ℕ) → standing x ≡ true → t ≤ x.start → f.advance t ≡ becomes u → f.image x ≡ to a b → u ≤ a
+  pub later : (x : Plain) (t u a b : ℕ) → standing x ≡ true → t ≤ x.start → f.advance t ≡ Ok u → f.image x ≡ to a b → u ≤ a
   pub ends : (x : Plain) (e t u : ℕ) → standing x ≡ true → standing (with_end e x) ≡ true → t ≤ x.end → t ≤ e →
-      f.advance t ≡ becomes u → Ends u (f.image x) (f.image (with_end e x))
-  pub rises : (t v u w : ℕ) → t ≤ v → f.advance t ≡ becomes u → f.advance v ≡ becomes w → u ≤ w
+      f.advance t ≡ Ok u → Ends u (f.image x) (f.image (with_end e x))
+  pub rises : (t v u w : ℕ) → t ≤ v → f.advance t ≡ Ok u → f.advance v ≡ Ok w → u ≤ w
   pub rows : (x : Plain) (a b : ℕ) → standing x ≡ true → f.image x ≡ to a b → standing (spanned x a b) ≡ true
-  pub times : (t u : ℕ) → finite t ≡ true → f.advance t ≡ becomes u → finite u ≡ true
+  pub times : (t u : ℕ) → finite t ≡ true → f.advance t ≡ Ok u → finite u ≡ true
 
 abbrev pub AllKeep : List Rule → Type 0
 AllKeep [] = Unit {0}

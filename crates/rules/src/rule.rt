@@ -2,7 +2,7 @@
 ghost use Rattle.std.specs.Prelude.{◌≡◌};
 ghost use Rattle.rewriting.specs.Rules.{Rule, Keeps};
 ghost use Rattle.rows.specs.Kinds.{Kind};
-ghost use Rattle.rules.specs.Told.{image_told, advance_told, fields};
+ghost use Rattle.rules.specs.Told.{image_told, fields};
 
 use refusals::refusal::Refusal;
 use rows::payload::Payload;
@@ -21,5 +21,5 @@ pub trait RowRule {
 
     // The CTI that a CTI becomes at a kind of payload.
     fn advance<P: Payload>(&self, time: u32) -> Result<u32, Refusal>
-        ensures { advance_told result ≡ (rule self.now P.Payload.kind).advance time };
+        ensures { result ≡ (rule self.now P.Payload.kind).advance time };
 }
