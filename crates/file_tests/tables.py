@@ -109,28 +109,28 @@ def packed(text):
     return out
 
 
-def pairs(rows):
-    return "[" + ", ".join(f"({a}, {b})" for a, b in rows) + "]"
+def outcomes(rows):
+    return "[" + ", ".join(f"Err(({why}, {number}))" if why else f"Ok({number})" for why, number in rows) + "]"
 
 
 def table(name, fields_at, data, telling):
     print(f"pub const {name}: [u8; {len(data)}] = {list(data)};")
     print()
-    print(f"pub const {name}_CUT: [(u8, u64); {len(data) + 1}] = {pairs(told(fields_at, data[:n]) for n in range(len(data) + 1))};")
+    print(f"pub const {name}_CUT: [Outcome; {len(data) + 1}] = {outcomes(told(fields_at, data[:n]) for n in range(len(data) + 1))};")
     print()
     print(f"pub const {name}_TELLING: [u8; {len(telling)}] = {list(telling)};")
     print()
-    print(f"pub const {name}_REPLACED: [(u8, u64); {len(data) * len(telling)}] = [")
+    print(f"pub const {name}_REPLACED: [Outcome; {len(data) * len(telling)}] = [")
     for i in range(len(data)):
-        print("    " + pairs(told(fields_at, data[:i] + bytes([b]) + data[i + 1:]) for b in telling)[1:-1] + ",")
+        print("    " + outcomes(told(fields_at, data[:i] + bytes([b]) + data[i + 1:]) for b in telling)[1:-1] + ",")
     print("];")
 
 
 EXAMPLE = b"I 1 15 * 7 4095\nC 40\nR 1 15 * 90 7 4095\n"
 
 if __name__ == "__main__":
-    print("// Small files, and what they are read as once they are cut or one byte is replaced: (0, how many events) at END, else")
-    print("// (refusal, event). Written by tables.py.")
+    print("// Small files, and what they are read as once they are cut or one byte is replaced. Written by tables.py.")
+    print("use crate::outcomes::Outcome;")
     print()
     table("TEXT", text_fields, EXAMPLE, b" \n*09Rx\x00\xff")
     print()

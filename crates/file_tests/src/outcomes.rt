@@ -1,30 +1,30 @@
-// What a file is read as: (0, how many events) at END, else (refusal, event).
+// What a file is read as.
 use files::form::Form;
 use files::reader::Reader;
 use rows::payload::Payload;
-use sources::source::{Numbered, Source};
+use sources::source::Source;
 
-pub fn told<F: Form, P: Payload>(bytes: &[u8]) -> (u8, u64) {
+// How many events, or else the refusal and the number of its event.
+pub type Outcome = Result<u64, (u8, u64)>;
+
+pub fn told<F: Form, P: Payload>(bytes: &[u8]) -> Outcome {
     let mut reader: Reader<F, P> = Reader::new(bytes);
     let mut last = 0;
-    for _ in 0..=bytes.len() {
+    loop {
         match reader.take() {
-            Ok(Some(Numbered { number, .. })) => last = number,
-            Ok(None) => return (0, last),
-            Err(fault) => return (fault.refusal.number(), fault.event.unwrap_or(0)),
+            Ok(Some(next)) => last = next.number,
+            Ok(None) => return Ok(last),
+            Err(fault) => return Err((fault.refusal.number(), fault.event.unwrap_or(0))),
         }
     }
-    (255, 0)
 }
 
 // Whether the file, cut at each byte, is read as expected.
-pub fn cut<F: Form, P: Payload>(bytes: &[u8], expected: &[(u8, u64)]) -> bool {
-    let mut n = 0;
-    for outcome in expected {
-        if n > bytes.len() || told::<F, P>(&bytes[0..n]) != *outcome {
+pub fn cut<F: Form, P: Payload>(bytes: &[u8], expected: &[Outcome]) -> bool {
+    for (n, outcome) in expected.iter().enumerate() {
+        if n > bytes.len() || told::<F, P>(&bytes[..n]) != *outcome {
             return false;
         }
-        n += 1;
     }
     expected.len() == bytes.len() + 1
 }
@@ -33,22 +33,18 @@ pub fn cut<F: Form, P: Payload>(bytes: &[u8], expected: &[(u8, u64)]) -> bool {
 pub fn replaced<F: Form, P: Payload>(
     bytes: &mut [u8],
     others: &[u8],
-    expected: &[(u8, u64)],
+    expected: &[Outcome],
 ) -> bool {
-    let mut k = 0;
+    let mut expected = expected.iter();
     for i in 0..bytes.len() {
         let kept = bytes[i];
         for other in others {
-            if k >= expected.len() {
-                return false;
-            }
             bytes[i] = *other;
-            if told::<F, P>(bytes) != expected[k] {
+            if expected.next().copied() != Some(told::<F, P>(bytes)) {
                 return false;
             }
-            k += 1;
         }
         bytes[i] = kept;
     }
-    k == expected.len()
+    expected.next().is_none()
 }

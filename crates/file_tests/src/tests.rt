@@ -30,37 +30,34 @@ fn each_byte_replaced(rt: HostRuntime) {
 
 #[test]
 fn numbers_before_what_follows(rt: HostRuntime) {
-    assert_eq!(rt; told::<Text, Reading>(b"C 99999999999"), (4, 1));
-    assert_eq!(rt; told::<Text, Reading>(b"C 12"), (2, 1));
-    assert_eq!(rt; told::<Text, Reading>(b"C 12x"), (3, 1));
-    assert_eq!(rt; told::<Text, Reading>(b"C 012"), (4, 1));
-    assert_eq!(rt; told::<Text, Reading>(b"C "), (2, 1));
-    assert_eq!(rt; told::<Text, Reading>(b"C *\n"), (3, 1));
+    assert_eq!(rt; told::<Text, Reading>(b"C 99999999999"), Err((4, 1)));
+    assert_eq!(rt; told::<Text, Reading>(b"C 12"), Err((2, 1)));
+    assert_eq!(rt; told::<Text, Reading>(b"C 12x"), Err((3, 1)));
+    assert_eq!(rt; told::<Text, Reading>(b"C 012"), Err((4, 1)));
+    assert_eq!(rt; told::<Text, Reading>(b"C "), Err((2, 1)));
+    assert_eq!(rt; told::<Text, Reading>(b"C *\n"), Err((3, 1)));
     assert_eq!(rt;
         told::<Text, Reading>(b"C 4000000000\nC 4000000001\n"),
-        (6, 2)
+        Err((6, 2))
     );
-    assert_eq!(rt;
-        told::<Text, Reading>(b"I 4294967295 15 * 7 4095\n"),
-        (0, 1)
-    );
+    assert_eq!(rt; told::<Text, Reading>(b"I 4294967295 15 * 7 4095\n"), Ok(1));
     assert_eq!(rt;
         told::<Text, Reading>(b"I 1 15 4294967295 7 4095\n"),
-        (6, 1)
+        Err((6, 1))
     );
     assert_eq!(rt;
         told::<Text, Reading>(b"I 1 15 4294967295 7 4096\n"),
-        (5, 1)
+        Err((5, 1))
     );
 }
 
 #[test]
 fn longest_file(rt: HostRuntime) {
     let ctis = [3u8; 65_537];
-    assert_eq!(rt; told::<Binary, Reading>(&ctis[0..65_536]), (0, 32_768));
-    assert_eq!(rt; told::<Binary, Reading>(&ctis[0..65_535]), (2, 32_768));
-    assert_eq!(rt; told::<Binary, Reading>(&ctis), (1, 1));
-    assert_eq!(rt; told::<Text, Reading>(&ctis), (1, 1));
+    assert_eq!(rt; told::<Binary, Reading>(&ctis[0..65_536]), Ok(32_768));
+    assert_eq!(rt; told::<Binary, Reading>(&ctis[0..65_535]), Err((2, 32_768)));
+    assert_eq!(rt; told::<Binary, Reading>(&ctis), Err((1, 1)));
+    assert_eq!(rt; told::<Text, Reading>(&ctis), Err((1, 1)));
 }
 
 #[test]
