@@ -1,6 +1,6 @@
 -- What is left to write, by its first number or event. Assumes nothing.
-use Rattle.std.proofs.Common.{◌≡◌, ℕ, ◌+◌, ◌<◌, ◌≤◌, true, ◌&&◌, List, [], ◌∷◌, ◌++◌, length, get_or, take, drop, sym, ap, ◌∙◌, subst}
-use Rattle.std.proofs.lemmas.List.{at_drop_more, at_drop_all, take_more, take_all, length-append}
+use Rattle.std.proofs.Common.{◌≡◌, ℕ, ◌+◌, ◌<◌, ◌&&◌, List, [], ◌∷◌, ◌++◌, length, get_or, take, drop, sym, ap, ◌∙◌, subst}
+use Rattle.std.proofs.lemmas.List.{at_drop_more, take_more, length-append}
 use Rattle.groups.specs.Groups.{groups_of}
 use Rattle.groups.specs.Puts.{put_all}
 use Rattle.groups.proofs.Putting.{put_all_append}
@@ -15,9 +15,6 @@ module _ (ns : List ℕ) (i : ℕ) where
 
   pub numbers_len : i < length ns → length (all_groups (drop i ns)) ≡ length (groups_of (get_or ns i 0)) + length (all_groups (drop (i + 1) ns))
   numbers_len h = ap length (numbers_left h) ∙ length-append (groups_of (get_or ns i 0)) (all_groups (drop (i + 1) ns))
-
-  pub numbers_none : length ns ≤ i → all_groups (drop i ns) ≡ []
-  numbers_none h = at_drop_all all_groups ns i h
 
   pub put_numbers_more : (out : List ℕ) (place : ℕ) → i < length ns →
       put_all (put_all out place (groups_of (get_or ns i 0))) (place + length (groups_of (get_or ns i 0))) (all_groups (drop (i + 1) ns)) ≡ put_all out place (all_groups (drop i ns))
@@ -49,12 +46,3 @@ module _ {P : Type 0} (pair : P → Pair) (es : List (Event P)) (i : ℕ) where
         joined : (xs : List (Event P)) (x : Event P) → AllSmall pair xs → Small (numbers_of (plain_event pair x)) → AllSmall pair (xs ++ x ∷ [])
         joined [] x a s = (s, tt)
         joined (y ∷ ys) x a s = (a.0, joined ys x a.1 s)
-
-  pub events_none : length es ≤ i → file_bytes pair (drop i es) ≡ []
-  events_none h = at_drop_all (file_bytes pair) es i h
-
-  pub timely_none : length es ≤ i → all_timely pair (drop i es) ≡ true
-  timely_none h = at_drop_all (all_timely pair) es i h
-
-  pub small_all : length es ≤ i → AllSmall pair (take i es) → AllSmall pair es
-  small_all h a = subst (AllSmall pair) (take_all i es h) a

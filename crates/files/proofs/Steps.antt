@@ -13,7 +13,7 @@ use Rattle.files.specs.declared.reader.State.TheVariants.{Reading}
 use Rattle.files.specs.Reading.{Reads, Ends, event, fault, one_of, one, ends, gives, course, stream_of}
 use Rattle.files.specs.Readers.{reader_course, reader_stream}
 use Rattle.files.proofs.Ones.{one_fields, one_some, ends_shorter, ends_place}
-use Rattle.files.proofs.Courses.{course_step, course_fault, course_end}
+use Rattle.files.proofs.Courses.{course_step, course_fault}
 
 module _ (read : Reads) (short : (bs rest : List ℕ) (f : Fields) → read bs ≡ Ok (f, rest) → Ends rest bs) (k : Kind) where
   one_ends : (bs rest : List ℕ) (e : PlainEvent) → one read k bs ≡ event e rest → Ends rest bs
@@ -58,13 +58,3 @@ module _ (read : Reads) (short : (bs rest : List ℕ) (f : Fields) → read bs �
 
         pub fault_after : stream_of (ends (Err f)) ≡ rest_of (reader_stream read k state number (drop place bytes))
         fault_after = sym (ap (λ c. rest_of (stream_of c)) fault_is)
-
-    module _ (over : length bytes ≤ place) where
-      end_is : reader_course read k state number (drop place bytes) ≡ ends (Ok tt)
-      end_is = course_is ∙ course_end (one read k) number (drop place bytes) (simp length-drop (omega arith))
-
-      pub end_value : ended (Ok tt) ≡ next_in (reader_stream read k state number (drop place bytes))
-      end_value = sym (ap (λ c. next_in (stream_of c)) end_is)
-
-      pub end_after : stream_of (ends (Ok tt)) ≡ rest_of (reader_stream read k state number (drop place bytes))
-      end_after = sym (ap (λ c. rest_of (stream_of c)) end_is)

@@ -9,6 +9,7 @@ use sources::source::Source;
 use std::alloc::{AllocError, Global};
 
 // The events of a source, or the fault that it ends with.
+// Want of memory stands outside: a caller passes it on by `?`, and matches on what the source told.
 pub fn collect<P: Payload, S: Source<Payload = P> + Drop>(
     heap: Global,
     mut source: S,

@@ -16,16 +16,12 @@ returns-in-Ok-write g c =
       exact = spells pair kind text vs col _ c.in-Ok-write.ensures.exact;
     }
 
-pub returns : goal.returns
-returns g c =
+pub returns-clause-value : goal.returns-clause-value
+returns-clause-value g c =
     let pair = g.P.Payload.pair in
     let kind = g.P.Payload.kind in
     let text = c.args.text.now in
     let vs = c.as_slice.result.now in
     let col = from_slice pair vs c.in-Ok.events _ _ _ c.as_slice.ensures.value c.in-Ok.is c.in_ok-events.ensures c.new-reader.ensures.value in
-    record {
-      value =
-          packed_err pair kind text vs col c.args.side c.args.out.now c.write.new.out c.in-Err-write.refusal c.bare.result c.on_side-in-Err-write.result
-          c.in-Err-write.ensures.value c.bare.ensures c.on_side-in-Err-write.ensures;
-      exact = tt;
-    }
+    packed_err pair kind text vs col c.args.side c.args.out.now c.write.new.out c.in-Err-write.refusal c.bare.result c.on_side-in-Err-write.result
+    c.in-Err-write.ensures.value c.bare.ensures c.on_side-in-Err-write.ensures

@@ -1,11 +1,8 @@
-use Rattle.std.proofs.Common.{sym, ap, arith}
-use Rattle.files.specs.Reading.{stream_of}
-use Rattle.files.proofs.Courses.{file_told, file_sound, file_short}
+use Rattle.files.proofs.Courses.{file_told, file_sound}
 use Rattle.files.proofs.reader.Reader.new.Goals as goal
 
-pub returns : goal.returns
-returns g c =
-    let read = g.F.Form.read in
-    let kind = g.P.Payload.kind in
-    let bytes = c.args.bytes.now in
-    record { value = ap stream_of (sym (file_short read kind bytes (omega arith))); told = file_told read kind bytes; sound = file_sound read kind bytes }
+pub returns-clause-told : goal.returns-clause-told
+returns-clause-told g c = file_told g.F.Form.read g.P.Payload.kind c.args.bytes.now
+
+pub returns-clause-sound : goal.returns-clause-sound
+returns-clause-sound g c = file_sound g.F.Form.read g.P.Payload.kind c.args.bytes.now

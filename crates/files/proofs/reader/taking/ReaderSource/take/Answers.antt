@@ -1,5 +1,5 @@
 use Rattle.std.proofs.Common.{arith}
-use Rattle.files.proofs.Steps.{next_place, next_value, next_after, fault_value, fault_after, end_value, end_after}
+use Rattle.files.proofs.Steps.{next_place, next_value, next_after, fault_value, fault_after}
 use Rattle.files.proofs.reader.taking.ReaderSource.take.Goals as goal
 
 pub overflow_sub-self : goal.overflow_sub-self
@@ -43,16 +43,4 @@ returns-in-Err g c =
       after =
           fault_after g.F.Form.read g.F.Form.ends g.P.Payload.kind s.bytes.now s.place s.number s.state c.in-Reading-Some.is-0 s.within
           left.0 c.in-Reading-Some.left.now left.1 _ c.in-Err.ensures _ c.at_event-fault.ensures;
-    }
-
-pub returns-in-Reading-None : goal.returns-in-Reading-None
-returns-in-Reading-None g c =
-    let s = c.args.self.now in
-    record {
-      value =
-          end_value g.F.Form.read g.F.Form.ends g.P.Payload.kind s.bytes.now s.place s.number s.state c.in-Reading-None.is-0 s.within
-          c.in-Reading-None.ensures;
-      after =
-          end_after g.F.Form.read g.F.Form.ends g.P.Payload.kind s.bytes.now s.place s.number s.state c.in-Reading-None.is-0 s.within
-          c.in-Reading-None.ensures;
     }
