@@ -1,5 +1,5 @@
 -- The course of some bytes, one event at a time. Assumes nothing.
-use Rattle.std.proofs.Common.{◌≡◌, ℕ, zero, suc, ◌+◌, ◌<◌, ◌≤◌, true, ltb, List, [], ◌∷◌, length, sym, refl, ap, ◌∙◌, arith, Ok, Err}
+use Rattle.std.proofs.Common.{◌≡◌, ℕ, zero, suc, ◌+◌, ◌<◌, ◌≤◌, true, ltb, List, [], ◌∷◌, length, sym, refl, ap, ◌∙◌, arith, Err}
 use Rattle.std.proofs.lemmas.Bool.{cond_both, cond-false, le-ltb}
 use Rattle.refusals.specs.declared.refusal.Refusal.{Refusal}
 use Rattle.refusals.specs.declared.refusal.Refusal.TheVariants.{TooLong}
@@ -36,10 +36,6 @@ module _ (one : List ℕ → One) (none : one [] ≡ nothing) (shorter : (bs res
 pub course_fault : (one : List ℕ → One) (n : ℕ) (bs : List ℕ) (r : Refusal) → 0 < length bs → one bs ≡ fault r → course one n bs ≡ ends (Err (event_fault r 0 n))
 course_fault one n [] r l h = absurd (omega arith)
 course_fault one n (b ∷ bs) r l h = ap (λ o. proceed n o (course_up_to one (length bs) (n + 1))) h
-
-pub course_end : (one : List ℕ → One) (n : ℕ) (bs : List ℕ) → length bs ≤ 0 → course one n bs ≡ ends (Ok tt)
-course_end one n [] l = refl
-course_end one n (b ∷ bs) l = absurd (omega arith)
 
 up_to_told : (one : List ℕ → One) (f n : ℕ) (bs : List ℕ) → Told n (stream_of (course_up_to one f n bs))
 up_to_told one zero n bs = tt

@@ -3,7 +3,7 @@
 
 use anyhow::anyhow;
 use binary::form::Binary;
-use decimals::{decimal, decimal_fault};
+use decimals::read_decimal;
 use files::reader::{LONGEST, Reader};
 use hashed::store::HashedStore;
 use kinds::reading::Reading;
@@ -38,11 +38,8 @@ fn read_file(rt: &HostRuntime, path: &str) -> io::Result<Vec<u8>> {
 
 // A width and a line feed, and nothing else; any other input is no width.
 fn width_in(bytes: &[u8]) -> u32 {
-    if decimal_fault(bytes).is_some() {
-        return 0;
-    }
-    match decimal(bytes) {
-        (width, [b'\n']) => width,
+    match read_decimal(bytes) {
+        Ok((width, [b'\n'])) => width,
         _ => 0,
     }
 }
