@@ -33,6 +33,7 @@ fn put_numbers(out: &mut [u8], at: usize, numbers: &[u32]) -> usize
     ensures place { result ≡ at + length (all_groups numbers.now) }
     ensures after { out.new ≡ put_all out.old at (all_groups numbers.now) }
 {
+    // A plain loop: a chain's closure would have to change the slice that it writes into.
     let mut place = at;
     for n in numbers {
         place = put_number(out, place, *n);

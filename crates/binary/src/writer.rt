@@ -25,6 +25,7 @@ fn judge_all<P: Payload>(events: &[Event<P>]) -> Result<(), Refusal>
 fn fit<P: Payload>(events: &[Event<P>], room: usize) -> bool
     ensures { result ≡ nat_le (length (file_bytes P.Payload.pair events.now)) room }
 {
+    // A plain loop: the sum of all lengths may be larger than any number, so it stops where the room does.
     let mut left = room;
     for event in events {
         let len = event_len(*event);
@@ -42,6 +43,7 @@ fn put_events<P: Payload>(events: &[Event<P>], out: &mut [u8]) -> usize
     ensures after { out.new ≡ put_all out.old 0 (file_bytes P.Payload.pair events.now) }
     ensures small { AllSmall P.Payload.pair events.now }
 {
+    // A plain loop: a chain's closure would have to change the slice that it writes into.
     let mut place = 0;
     for event in events {
         place = put_event(out, place, *event);

@@ -45,6 +45,7 @@ pub fn decimal(bytes: &[u8]) -> (u32, &[u8])
     ensures value { (result.0, result.1.now) ≡ taken 0 bytes.now }
     ensures exact { DecimalExact bytes.now }
 {
+    // A plain loop: the number and the bytes that are left go on together, up to the first digit that is too much.
     let mut value: u32 = 0;
     let mut rest = bytes;
     while let [first, after @ ..] = rest {

@@ -27,6 +27,7 @@ fn write_binary(rt: &HostRuntime, bytes: &[u8]) -> io::Result<()> {
     fs::rename(rt, "right.bin.part", "right.bin")
 }
 
+// Each failure is matched, and not mapped: telling it on standard error may fail too.
 fn main(rt: HostRuntime) -> anyhow::Result<()> {
     let text = match read_text(&rt) {
         Ok(text) => text,
