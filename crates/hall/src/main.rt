@@ -36,35 +36,34 @@ fn read_file(rt: &HostRuntime, path: &str) -> io::Result<Vec<u8>> {
     Ok(bytes)
 }
 
-// A width and a line feed, and nothing else; any other input is no width.
-fn width_in(bytes: &[u8]) -> u32 {
-    match read_decimal(bytes) {
-        Ok((width, [b'\n'])) => width,
-        _ => 0,
-    }
-}
-
-fn read_width(rt: &HostRuntime) -> io::Result<u32> {
+// More bytes than a width and a line feed have are no width either.
+fn read_input(rt: &HostRuntime) -> io::Result<Vec<u8>> {
     let mut bytes = Vec::new(rt.alloc());
     rt.stdin().take(16).read_to_end(&mut bytes)?;
-    Ok(width_in(bytes.as_slice()))
+    Ok(bytes)
+}
+
+// A width and a line feed, and nothing else.
+fn width_in(input: &[u8]) -> Result<u32, Refusal> {
+    match read_decimal(input) {
+        Ok((width, [b'\n'])) => Ok(width),
+        _ => Err(Refusal::BadWidth),
+    }
 }
 
 // The keys that are served, at any value.
-fn served() -> Result<Select, Fault> {
-    match Select::new(0, 8_999, 0, UNLIMITED) {
-        Ok(select) => Ok(select),
-        Err(why) => Err(Fault::bare(why)),
-    }
+fn served() -> Result<Select, Refusal> {
+    Select::new(0, 8_999, 0, UNLIMITED)
 }
 
 fn serve(
-    width: u32,
+    input: &[u8],
     left: &[u8],
     right: &[u8],
     lines: &mut [Line],
     windows: &mut [Window],
 ) -> Result<RunReport, Fault> {
+    let width = width_in(input)?;
     let tallies: Reader<Text, Tally> = Reader::new(left);
     let readings: Reader<Binary, Reading> = Reader::new(right);
     let mut left = Layer::new(tallies, served()?);
@@ -83,14 +82,12 @@ fn print_lines(rt: &HostRuntime, lines: &[Line]) -> anyhow::Result<()> {
 
 // Each window's lines, and then its record.
 fn print_windows(rt: &HostRuntime, lines: &[Line], windows: &[Window]) -> anyhow::Result<()> {
-    let mut from = 0usize;
+    let mut left = lines;
     for window in windows {
-        let end = from.saturating_add(window.lines);
-        if from <= end && end <= lines.len() {
-            print_lines(rt, &lines[from..end])?;
-            from = end;
-        }
+        let (own, later) = left.split_at(window.lines.min(left.len()));
+        print_lines(rt, own)?;
         println!(rt; "{window}")?;
+        left = later;
     }
     Ok(())
 }
@@ -111,13 +108,13 @@ fn tell(rt: &HostRuntime, fault: Fault) -> anyhow::Result<()> {
 }
 
 fn main(rt: HostRuntime) -> anyhow::Result<()> {
-    let width = read_width(&rt)?;
+    let input = read_input(&rt)?;
     let left = read_file(&rt, "left.txt")?;
     let right = read_file(&rt, "right.bin")?;
     let mut lines = vec![in rt.alloc(); Line::default(); PLACES]?;
     let mut windows = vec![in rt.alloc(); Window::default(); PLACES]?;
     let report = match serve(
-        width,
+        input.as_slice(),
         left.as_slice(),
         right.as_slice(),
         lines.as_mut_slice(),
@@ -131,12 +128,10 @@ fn main(rt: HostRuntime) -> anyhow::Result<()> {
     print_windows(&rt, lines.as_slice(), windows.as_slice())?;
     match report.ending {
         Ok(()) => {
-            let (closed, held_left, held_right) = (
-                report.closed,
-                report.held_left,
-                report.held_right,
-            );
-            println!(rt; "E {closed} {held_left} {held_right}")?;
+            println!(rt;
+                "E {} {} {}",
+                report.closed, report.held_left, report.held_right
+            )?;
             Ok(())
         }
         Err(fault) => tell(&rt, fault),
