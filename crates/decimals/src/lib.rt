@@ -58,32 +58,28 @@ pub fn decimal(bytes: &[u8]) -> (u32, &[u8])
     (value, rest)
 }
 
-// Why the bytes do not begin with a decimal number; None where they do.
-pub fn decimal_fault(bytes: &[u8]) -> Option<Refusal>
-    ensures { result ≡ decimal_fault bytes.now }
-{
-    let [first, ..] = bytes else {
-        return Some(Refusal::CutOff);
-    };
-    if !is_digit(*first) {
-        return Some(Refusal::BadByte);
-    }
-    let (_, rest) = decimal(bytes);
-    if has_leading_zero(bytes) || begins_with_digit(rest) {
-        Some(Refusal::BadNumber)
-    } else {
-        None
-    }
-}
-
 // The number that the bytes begin with and the bytes after it, or why they do not begin with one.
 pub fn read_decimal(bytes: &[u8]) -> Result<(u32, &[u8]), Refusal>
     ensures { told result ≡ decimal_read bytes.now }
 {
-    match decimal_fault(bytes) {
-        Some(refusal) => Err(refusal),
-        None => Ok(decimal(bytes)),
+    let [first, ..] = bytes else {
+        return Err(Refusal::CutOff);
+    };
+    if !is_digit(*first) {
+        return Err(Refusal::BadByte);
     }
+    let (value, rest) = decimal(bytes);
+    if has_leading_zero(bytes) || begins_with_digit(rest) {
+        return Err(Refusal::BadNumber);
+    }
+    Ok((value, rest))
+}
+
+// Why the bytes do not begin with a decimal number; None where they do.
+pub fn decimal_fault(bytes: &[u8]) -> Option<Refusal>
+    ensures { result ≡ decimal_fault bytes.now }
+{
+    read_decimal(bytes).err()
 }
 
 // Texts that are read as numbers, and texts that are refused.

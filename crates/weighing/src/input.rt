@@ -12,7 +12,8 @@ use std::alloc::{AllocError, Global};
 // The most bytes that an input may have.
 pub const LONGEST: usize = 65_536;
 
-// What the numbers weigh, in order, and the fault that ends them early.
+// What the numbers weigh, in order, and the fault that ends them early. No `Result`: what was weighed before a fault is told
+// with it.
 #[derive(Drop)]
 pub struct Report {
     pub weighed: Vec<Weighed>,
