@@ -36,6 +36,7 @@ pub fn replaced<F: Form, P: Payload>(
     expected: &[Outcome],
 ) -> bool {
     let mut expected = expected.iter();
+    // by index: a byte is changed while the whole file is read
     for i in 0..bytes.len() {
         let kept = bytes[i];
         for other in others {

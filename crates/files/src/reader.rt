@@ -18,7 +18,8 @@ pub enum State {
     Failed(Fault),
 }
 
-// A file of some form, read from its place on; the next event has the number.
+// A file of some form, read from its place on; the next event has the number. The file is kept whole with a place in it, so that
+// its number of events is bounded by its bytes.
 #[derive(Drop)]
 pub struct Reader<'a, F, P> {
     bytes: &'a [u8],

@@ -27,7 +27,8 @@ use text::form::Text;
 // Places for lines, and for window records.
 const PLACES: usize = 1_024;
 
-// At most one byte more than a file may have: that tells that it is too long.
+// At most one byte more than a file may have: that tells that it is too long. Each program reads its own files, since no clause
+// can say what a file gives.
 fn read_file(rt: &HostRuntime, path: &str) -> io::Result<Vec<u8>> {
     let mut bytes = Vec::new(rt.alloc());
     fs::open(rt, path)?

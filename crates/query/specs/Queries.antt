@@ -23,7 +23,7 @@ abbrev pub setting : Kind → Kind → ℕ → ℕ → ℕ → Setup
 setting k m c d width = record { width = width; capacity = both c d; kinds = guarded_kinds k m }
 
 abbrev pub setup : {L R S T : Type 0} {l : Payload.Ghosts L} {r : Payload.Ghosts R} {s : Store.Ghosts S} {t : Store.Ghosts T} → Query L R S T l r s t → Setup
-setup {l = l} {r = r} {s = s} {t = t} q = setting l.kind r.kind s.capacity t.capacity q.width
+setup {l = l} {r = r} {s = s} {t = t} q = setting l.kind r.kind s.CAPACITY t.CAPACITY q.width
 
 abbrev pub state : {L R S T : Type 0} {l : Payload.Ghosts L} {r : Payload.Ghosts R} {s : Store.Ghosts S} {t : Store.Ghosts T} → Query L R S T l r s t → QueryState
 state q = record { closed = q.closed; halves = both q.left q.right }

@@ -72,12 +72,12 @@ pub fn run<
     B: Source<Payload = R>,
 >(width: u32, left: &mut A, right: &mut B, lines: &mut [Line], windows: &mut [Window]) -> RunReport
     ensures value { reported result lines.new windows.new
-        ≡ run_or_refused (setting L.Payload.kind R.Payload.kind S.Store.capacity T.Store.capacity width)
+        ≡ run_or_refused (setting L.Payload.kind R.Payload.kind S.Store.CAPACITY T.Store.CAPACITY width)
         (places lines.old windows.old)
         (shallows (both (A.Source.stream left.old) (B.Source.stream right.old))) }
     ensures later { Later result.lines lines.old lines.new × Later result.windows windows.old windows.new }
     ensures promise { lawful_width width ≡ true →
-        Promise L.Payload.kind R.Payload.kind S.Store.capacity T.Store.capacity width
+        Promise L.Payload.kind R.Payload.kind S.Store.CAPACITY T.Store.CAPACITY width
         (both (A.Source.rules left.old) (B.Source.rules right.old))
         (both (A.Source.foot left.old) (B.Source.foot right.old))
         (reported result lines.new windows.new) }

@@ -20,15 +20,15 @@ pub struct Purged {
 pub trait Store: Sized {
     const CAPACITY: usize;
 
-    ghost capacity: { ℕ };
+    ghost CAPACITY: { ℕ };
 
     ghost rows: { Self → List Plain };
 
-    ghost some: { 1 ≤ capacity };
+    ghost some: { 1 ≤ CAPACITY };
 
-    ghost few: { capacity ≤ 65536 };
+    ghost few: { CAPACITY ≤ 65536 };
 
-    ghost within: { (s : Self) → length (rows s) ≤ capacity };
+    ghost within: { (s : Self) → length (rows s) ≤ CAPACITY };
 
     ghost rising: { (s : Self) → Rising (rows s) };
 
@@ -42,7 +42,10 @@ pub trait Store: Sized {
 
     // How many rows the store can hold.
     fn most_rows() -> usize
-        ensures { result ≡ capacity };
+        ensures { result ≡ CAPACITY }
+    {
+        Self::CAPACITY
+    }
 
     // How many rows it holds.
     fn count(&self) -> usize
@@ -69,7 +72,7 @@ pub trait Store: Sized {
 
     // Adds a row: IdInUse where its id is held, else StoreFull at capacity.
     fn add(&mut self, id: u32, span: Span, key: u32, value: u32) -> Result<(), Refusal>
-        ensures { outcome result (rows self.new) ≡ adds capacity (row_of id span key value) (rows self.old) };
+        ensures { outcome result (rows self.new) ≡ adds CAPACITY (row_of id span key value) (rows self.old) };
 
     // Gives a row another end: NoSuchRow, or BadTime where the row may not end there.
     fn set_end(&mut self, id: u32, end: u32) -> Result<(), Refusal>

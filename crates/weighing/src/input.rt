@@ -9,7 +9,7 @@ use refusals::fault::Fault;
 use refusals::refusal::Refusal;
 use std::alloc::{AllocError, Global};
 
-// The most bytes that an input may have.
+// The most bytes that an input may have. The limit of event files is another rule, though it is the same number.
 pub const LONGEST: usize = 65_536;
 
 // What the numbers weigh, in order, and the fault that ends them early. No `Result`: what was weighed before a fault is told

@@ -94,7 +94,7 @@ impl HashedStore {
 impl Store for HashedStore {
     const CAPACITY: usize = CAPACITY;
 
-    ghost capacity = { 256 };
+    ghost CAPACITY = { 256 };
 
     ghost rows = { held };
 
@@ -112,10 +112,6 @@ impl Store for HashedStore {
 
     fn new() -> HashedStore {
         HashedStore::empty()
-    }
-
-    fn most_rows() -> usize {
-        Self::CAPACITY
     }
 
     fn count(&self) -> usize {

@@ -13,7 +13,7 @@ impl<L: Payload, R: Payload, S: Store, T: Store> Query<L, R, S, T> {
     // A query with windows of a width, or BadWidth: closed time and CTIs 0, and no rows.
     pub fn new(width: u32) -> Result<Query<L, R, S, T>, Fault>
         ensures { opened result
-            ≡ opens (setting L.Payload.kind R.Payload.kind S.Store.capacity T.Store.capacity width) }
+            ≡ opens (setting L.Payload.kind R.Payload.kind S.Store.CAPACITY T.Store.CAPACITY width) }
     {
         if width < 1 || width > WIDEST {
             return Err(Refusal::BadWidth.into());

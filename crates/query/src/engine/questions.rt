@@ -8,6 +8,7 @@ use refusals::fault::Side;
 use rows::payload::Payload;
 use stores::store::Store;
 
+// Questions of a side have two arms: the inputs are of two types.
 impl<L: Payload, R: Payload, S: Store, T: Store> Query<L, R, S, T> {
     // The width of its windows.
     pub fn width(&self) -> u32

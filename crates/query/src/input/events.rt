@@ -50,7 +50,7 @@ impl<P: Payload, S: Store> Input<P, S> {
     fn apply(&mut self, event: Event<P>) -> Result<(), Refusal>
         requires { timely (plain_event P.Payload.pair event) ≡ true }
         ensures { half_outcome result self.new
-            ≡ stored S.Store.capacity (plain_event P.Payload.pair event) self.old }
+            ≡ stored S.Store.CAPACITY (plain_event P.Payload.pair event) self.old }
     {
         match event {
             Event::Insert(row) => self
@@ -68,7 +68,7 @@ impl<P: Payload, S: Store> Input<P, S> {
     // range, so it is never refused.
     fn accept(&mut self, event: Event<P>) -> Result<(), Refusal>
         ensures { half_outcome result self.new
-            ≡ taken P.Payload.kind S.Store.capacity (plain_event P.Payload.pair event) self.old }
+            ≡ taken P.Payload.kind S.Store.CAPACITY (plain_event P.Payload.pair event) self.old }
     {
         event.judge_times()?;
         if event.sync() < self.cti {
@@ -80,9 +80,9 @@ impl<P: Payload, S: Store> Input<P, S> {
     // Takes an event of a side, or tells the fault. A refused event changes nothing.
     pub fn take(&mut self, side: Side, event: Event<P>) -> Result<(), Fault>
         ensures answer { event_told result ≡ event_answer side self.old
-            (taken P.Payload.kind S.Store.capacity (plain_event P.Payload.pair event) self.old).answer }
+            (taken P.Payload.kind S.Store.CAPACITY (plain_event P.Payload.pair event) self.old).answer }
         ensures after { self.new
-            ≡ (taken P.Payload.kind S.Store.capacity (plain_event P.Payload.pair event) self.old).after }
+            ≡ (taken P.Payload.kind S.Store.CAPACITY (plain_event P.Payload.pair event) self.old).after }
     {
         let cti = self.cti;
         self.accept(event)

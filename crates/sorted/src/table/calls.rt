@@ -24,7 +24,7 @@ impl SortedStore {
 impl Store for SortedStore {
     const CAPACITY: usize = 128;
 
-    ghost capacity = { 128 };
+    ghost CAPACITY = { 128 };
 
     ghost rows = { held };
 
@@ -44,10 +44,6 @@ impl Store for SortedStore {
         SortedStore {
             rows: ArrayVec::new(),
         }
-    }
-
-    fn most_rows() -> usize {
-        Self::CAPACITY
     }
 
     fn count(&self) -> usize {

@@ -15,14 +15,14 @@ use Rattle.run.proofs.running.run.Goals as goal
 
 pub returns-in-Ok-clause-promise : goal.returns-in-Ok-clause-promise
 returns-in-Ok-clause-promise g c = λ lawful.
-    let s : Setup = setting g.L.Payload.kind g.R.Payload.kind g.S.Store.capacity g.T.Store.capacity c.args.width in
+    let s : Setup = setting g.L.Payload.kind g.R.Payload.kind g.S.Store.CAPACITY g.T.Store.CAPACITY c.args.width in
     let p : Places = places c.args.lines.now c.args.windows.now in
     let l = c.args.left.now in
     let r = c.args.right.now in
     let srcs : Both Stream = both (g.A.Source.stream l) (g.B.Source.stream r) in
     let a : Report = reported c.report.result c.go-ending.new.lines c.go-ending.new.windows in
     let is : a ≡ run_or_refused s p (shallows srcs) = search rules in
-    promise g.L.Payload.kind g.R.Payload.kind g.S.Store.capacity g.T.Store.capacity c.args.width p
+    promise g.L.Payload.kind g.R.Payload.kind g.S.Store.CAPACITY g.T.Store.CAPACITY c.args.width p
     (both (g.A.Source.rules l) (g.B.Source.rules r)) (both (g.A.Source.foot l) (g.B.Source.foot r)) srcs a lawful
     (elim [ Left ↦ g.A.Source.keep l | Right ↦ g.B.Source.keep r ])
     (λ i. both (g.A.Source.piled l i) (g.B.Source.piled r i)) (is ∙ cond-true _ _ _ lawful)

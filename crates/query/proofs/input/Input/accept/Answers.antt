@@ -12,6 +12,6 @@ returns-in_err-judge_times g c =
     let told = err_from_is_err_and c.from_residual.result c.from_residual.ensures.1 in
     ap (λ a. half_outcome a h) told.1
     ∙ ap (λ why. half_outcome (Err why) h) told.2
-    ∙ taken_untimely g.P.Payload.kind g.S.Store.capacity e h
+    ∙ taken_untimely g.P.Payload.kind g.S.Store.CAPACITY e h
     (event_ranged g.P.Payload.kind g.P.Payload.pair g.P.Payload.ranged c.args.event)
     c.in_err-judge_times.field-0.0 c.in_err-judge_times.ensures
