@@ -27,8 +27,8 @@ use text::form::Text;
 // Places for lines, and for window records.
 const PLACES: usize = 1_024;
 
-// At most one byte more than a file may have: that tells that it is too long. Each program reads its own files, since no clause
-// can say what a file gives.
+// At most one byte more than a file may have: that tells that it is too long. These few lines stand in each program, since what
+// is shared is proved, and no clause can say what a file gives.
 fn read_file(rt: &HostRuntime, path: &str) -> io::Result<Vec<u8>> {
     let mut bytes = Vec::new(rt.alloc());
     fs::open(rt, path)?
@@ -37,7 +37,7 @@ fn read_file(rt: &HostRuntime, path: &str) -> io::Result<Vec<u8>> {
     Ok(bytes)
 }
 
-// More bytes than a width and a line feed have are no width either.
+// At most 16 bytes: a width and its line feed have fewer.
 fn read_input(rt: &HostRuntime) -> io::Result<Vec<u8>> {
     let mut bytes = Vec::new(rt.alloc());
     rt.stdin().take(16).read_to_end(&mut bytes)?;
@@ -114,6 +114,7 @@ fn main(rt: HostRuntime) -> anyhow::Result<()> {
     let right = read_file(&rt, "right.bin")?;
     let mut lines = vec![in rt.alloc(); Line::default(); PLACES]?;
     let mut windows = vec![in rt.alloc(); Window::default(); PLACES]?;
+    // A match, and no map: telling a fault may fail too
     let report = match serve(
         input.as_slice(),
         left.as_slice(),

@@ -9,8 +9,8 @@ use refusals::fault::Side;
 use std::io::Read;
 use std::{fs, io};
 
-// At most one byte more than a file may have: that tells that it is too long. Each program reads its own files, since no clause
-// can say what a file gives.
+// At most one byte more than a file may have: that tells that it is too long. These few lines stand in each program, since what
+// is shared is proved, and no clause can say what a file gives.
 fn read_text(rt: &HostRuntime) -> io::Result<Vec<u8>> {
     let mut bytes = Vec::new(rt.alloc());
     fs::open(rt, "right.txt")?
