@@ -1,3 +1,4 @@
 pub mod Left
 pub mod Exact
 pub mod Canonical
+pub mod KindBytes

@@ -9,6 +9,7 @@ ghost use Rattle.hashed.specs.Listing.{ids, slots, rows_in, Matched};
 
 use crate::entry::Entry;
 use arrayvec::ArrayVec;
+use std::alloc::AllocError;
 use tables::table::{CAPACITY, Table};
 
 pub mod calls;
@@ -28,4 +29,22 @@ pub struct HashedStore {
     ghost matched: { Matched (cells table) (slots entries.items) },
     ghost worn: { deleted table ≤ removals },
     ghost recent: { removals ≤ 128 },
+}
+
+// Written out, since no derive copies a struct with ghost fields.
+impl Clone for HashedStore {
+    ghost use Rattle.std.specs.Prelude.{◌≡◌, ⊤};
+    ghost use Rattle.hashed.specs.Model.{held};
+
+    ghost is_clone = { λ s t. held t ≡ held s };
+
+    ghost is_infallible = { λ _. ⊤ };
+
+    fn clone(&self) -> Result<HashedStore, AllocError> {
+        Ok(HashedStore {
+            table: self.table,
+            entries: self.entries.clone()?,
+            removals: self.removals,
+        })
+    }
 }

@@ -6,6 +6,7 @@ ghost use Rattle.stores.proofs.Order.{Rising-prop};
 
 use arrayvec::ArrayVec;
 use rows::row::PlainRow;
+use std::alloc::AllocError;
 
 pub mod calls;
 
@@ -14,4 +15,20 @@ pub struct SortedStore {
     rows: ArrayVec<PlainRow, 128>,
     ghost within: { length rows.items ≤ 128 },
     ghost rising: { Rising (map plain rows.items) } by { Rising-prop (map plain rows.items) },
+}
+
+// Written out, since no derive copies a struct with ghost fields.
+impl Clone for SortedStore {
+    ghost use Rattle.std.specs.Prelude.{◌≡◌, ⊤};
+    ghost use Rattle.sorted.specs.Model.{held};
+
+    ghost is_clone = { λ s t. held t ≡ held s };
+
+    ghost is_infallible = { λ _. ⊤ };
+
+    fn clone(&self) -> Result<SortedStore, AllocError> {
+        Ok(SortedStore {
+            rows: self.rows.clone()?,
+        })
+    }
 }

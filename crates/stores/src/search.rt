@@ -6,11 +6,19 @@ ghost use Rattle.stores.specs.Places.{below};
 use rows::row::PlainRow;
 
 // What has an id.
-pub trait Identified {
+pub trait Identified: Copy {
     ghost number: { Self → ℕ };
 
     fn id(&self) -> u32
         ensures { result ≡ number self.now };
+}
+
+impl Identified for u32 {
+    ghost number = { λ id. id };
+
+    fn id(&self) -> u32 {
+        *self
+    }
 }
 
 impl Identified for PlainRow {

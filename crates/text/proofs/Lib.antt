@@ -2,3 +2,4 @@ pub mod Cuts
 pub mod FieldCuts
 pub mod Skips
 pub mod LineCuts
+pub mod Letters
