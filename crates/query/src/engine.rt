@@ -14,7 +14,8 @@ pub mod questions;
 pub const WIDEST: u32 = 604_800;
 
 // The windows' width, the closed time, which is the end of the last window that was closed, and both inputs. Clauses read a
-// query by its setup and its state; it has no model, whose value is data, while a setup has the functions of its kinds.
+// query by its setup and its state. It has no model: a model's value is data, and a setup has functions, those of its kinds.
+// That the closed time is finite stands here, and that a CTI is finite in both inputs' type.
 #[derive(Drop)]
 pub struct Query<L: Payload, R: Payload, S: Store, T: Store> {
     width: u32,
