@@ -10,7 +10,7 @@ pub mod taking;
 pub const LONGEST: usize = 65_536;
 
 // Where a reader stands: events may be left, the file is read to its end, or a fault was met.
-// Three states, and not an ending that may be absent: what is taken next is matched on the state and what stands next together.
+// Three states: what `take` does is matched on the state and on what is left together.
 #[derive(Clone, Copy)]
 pub enum State {
     Reading,

@@ -9,7 +9,7 @@ use crate::rewrite::rewrite;
 use refusals::fault::Fault;
 use rows::payload::Payload;
 use rules::rule::RowRule;
-use sources::source::{Numbered, Source};
+use sources::source::{DEEPEST, Numbered, Source};
 
 // The source below, the rule, and the fault that the layer has met.
 #[derive(Drop)]
@@ -69,6 +69,6 @@ impl<S: Source, R: RowRule> Source for Layer<S, R> {
     }
 
     fn depth(&self) -> u32 {
-        self.below.depth().saturating_add(1).min(65_535)
+        self.below.depth().saturating_add(1).min(DEEPEST)
     }
 }

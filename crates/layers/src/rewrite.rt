@@ -50,10 +50,10 @@ fn moved<P: Payload, R: RowRule>(
         (left_image (R.RowRule.rule rule.now P.Payload.kind) (plain_of P.Payload.pair row) left) }
 {
     let old = rule.image(row.id, row.span, row.payload)?;
-    let new = match left {
-        None => None,
-        Some(left) => rule.image(row.id, left, row.payload)?,
-    };
+    let new = left
+        .map(move |left| rule.image(row.id, left, row.payload))
+        .transpose()?
+        .flatten();
     match (old, new) {
         (None, None) => Ok(None),
         (None, Some(span)) => Ok(Some(Event::Insert(Row { span, ..row }))),

@@ -1,5 +1,5 @@
 -- The events of a text file, collected and written. Assumes nothing.
-use Rattle.std.proofs.Common.{◌≡◌, ℕ, suc, ◌+◌, true, List, [], ◌∷◌, ◌++◌, length, Ok, Err, vec_items, Result, Vec, sym, refl, ap, ◌∙◌, subst, arith}
+use Rattle.std.proofs.Common.{◌≡◌, ℕ, suc, ◌+◌, true, List, [], ◌∷◌, ◌++◌, length, take, Ok, Err, MatchResult, vec_items, Result, Vec, sym, refl, ap, ◌∙◌, subst, arith}
 use Rattle.std.proofs.lemmas.Bool.{and_from, cond-true}
 use Rattle.std.specs.declared.alloc.Global.{Global}
 use Rattle.refusals.specs.declared.fault.Fault.{Fault}
@@ -18,7 +18,8 @@ use Rattle.binary.specs.Canonical.{Spells}
 use Rattle.binary.specs.Writing.{event_bytes, file_bytes, all_timely, put_front, written}
 use Rattle.text.specs.Text.{text_read}
 use Rattle.packing.specs.Collecting.{plains, ending_with, collected, collected_as}
-use Rattle.packing.specs.Packing.{plain_bytes, put_counted, packed_of, packed}
+use Rattle.packing.specs.Packing.{plain_bytes, counted, put_counted, packed_of, packed, packed_as, Means}
+use Rattle.packing.specs.declared.file.Packed.{Packed}
 
 ending_ok : (es vs : List PlainEvent) (w : Ending) → Ok vs ≡ ending_with es w → (es ≡ vs) × (w ≡ Ok tt)
 ending_ok es vs (Ok u) h = (cc, refl)
@@ -32,6 +33,15 @@ from_slice {P} pair vs v all src file s a c f =
 
 firsts : (x y : PlainEvent) (xs ys : List PlainEvent) → x ∷ xs ≡ y ∷ ys → (x ≡ y) × (xs ≡ ys)
 firsts x y xs ys e = (cc, cc)
+
+-- what is answered of what the writing answers
+abbrev pub packed_by : Side → ℕ → Result ℕ Refusal → Result Packed Fault
+packed_by side count (Ok n) = Ok (record { events = count; bytes = n })
+packed_by side count (Err why) = Err (on_side side (bare_fault why))
+
+as_counted : (side : Side) (count : ℕ) (w : Result ℕ Refusal) → packed_as (packed_by side count w) ≡ counted side count w
+as_counted side count (Ok n) = refl
+as_counted side count (Err why) = refl
 
 module _ {P : Type 0} (pair : P → Pair) where
   file_plain : (vs : List (Event P)) → file_bytes pair vs ≡ plain_bytes (plains pair vs)
@@ -80,11 +90,13 @@ module _ {P : Type 0} (pair : P → Pair) where
         ∙ ap (λ bs. put_counted side (length vs) (put_front bs out)) (sym (file_plain vs))
         ∙ sym (ap (put_counted side (length vs)) (cond-true (all_timely pair vs) _ _ lawful))
 
-    pub packed_ok : (side : Side) (out after : List ℕ) (n count : ℕ) → (Ok n, after) ≡ written pair vs out → count ≡ length vs → (Ok (count, n), after) ≡ packed side k text out
-    packed_ok side out after n count w c =
-        ap (λ m. (Ok (m, n), after)) c ∙ ap (put_counted side (length vs)) w ∙ sym (packed_is side out)
+    pub packed_told : (side : Side) (out after : List ℕ) (w : Result ℕ Refusal) (r : Result Packed Fault) (count : ℕ) → r ≡ packed_by side count w → (w, after) ≡ written pair vs out → count ≡ length vs →
+        (packed_as r, after) ≡ packed side k text out
+    packed_told side out after w r count t e c =
+        ap (λ x. (packed_as x, after)) t ∙ ap (λ x. (x, after)) (as_counted side count w) ∙ ap (λ m. (counted side m w, after)) c
+        ∙ ap (put_counted side (length vs)) e ∙ sym (packed_is side out)
 
-    pub packed_err : (side : Side) (out after : List ℕ) (why : Refusal) (bare f : Fault) → (Err why, after) ≡ written pair vs out → bare ≡ bare_fault why → f ≡ on_side side bare →
-        (Err f, after) ≡ packed side k text out
-    packed_err side out after why bare f w b o =
-        ap (λ x. (Err x, after)) (o ∙ ap (on_side side) b) ∙ ap (put_counted side (length vs)) w ∙ sym (packed_is side out)
+    pub packed_means : (side : Side) (after : List ℕ) (w : Result ℕ Refusal) (r : Result Packed Fault) (count : ℕ) → r ≡ packed_by side count w →
+        MatchResult w (λ n. Spells k (listed_stream pair vs 0) (take n after)) (λ _. Unit {0}) → Means k text r after
+    packed_means side after (Ok n) r count t m = subst (λ x. Means k text x after) (sym t) (spells (take n after) m)
+    packed_means side after (Err why) r count t m = subst (λ x. Means k text x after) (sym t) tt

@@ -31,15 +31,17 @@ pub fn pack<P: Payload>(
     ensures exact { IfOk result (λ p. Means P.Payload.kind text.now p out.new) }
 {
     let reader: Reader<Text, P> = Reader::new(text);
+    // A match, since two things may go wrong: want of memory goes on by `?`, and the text's fault is an answer.
     let events = match collect(heap, reader)? {
         Ok(events) => events,
         Err(fault) => return Ok(Err(fault.on_side(side))),
     };
-    match write(events.as_slice(), out) {
-        Ok(bytes) => Ok(Ok(Packed {
-            events: events.len(),
+    let count = events.len();
+    let packed = write(events.as_slice(), out)
+        .map(move |bytes| Packed {
+            events: count,
             bytes,
-        })),
-        Err(refusal) => Ok(Err(Fault::bare(refusal).on_side(side))),
-    }
+        })
+        .map_err(move |why| Fault::from(why).on_side(side));
+    Ok(packed)
 }

@@ -9,6 +9,9 @@ use refusals::fault::Fault;
 use rows::event::Event;
 use rows::payload::Payload;
 
+// The greatest depth of a source.
+pub const DEEPEST: u32 = 65_535;
+
 // An event of a source, under its number.
 #[derive(Clone, Copy, PartialEq, Eq, Debug)]
 pub struct Numbered<P> {
@@ -38,7 +41,7 @@ pub trait Source {
         ensures value { taken_as Self.Payload.Payload.pair result ≡ next_in (stream self.old) }
         ensures after { stream self.new ≡ rest_of (stream self.old) };
 
-    // 0 for a source that is no layer, else one more than below, at most 65,535.
+    // 0 for a source that is no layer, else one more than below, at most DEEPEST.
     fn depth(&self) -> u32
         ensures { result ≡ (stream self.now).depth };
 }

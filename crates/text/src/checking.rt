@@ -98,7 +98,8 @@ fn past_cti(bytes: &[u8]) -> Result<&[u8], Refusal>
     past_byte(rest, b'\n')
 }
 
-fn past_line(bytes: &[u8]) -> Result<&[u8], Refusal>
+// The bytes after a whole line.
+pub(crate) fn past_line(bytes: &[u8]) -> Result<&[u8], Refusal>
     ensures { rest_told result ≡ skip_line bytes.now }
 {
     let [first, rest @ ..] = bytes else {

@@ -5,7 +5,7 @@ ghost use Rattle.text.specs.Lines.{end_in, number_in, line_of, fields_in};
 ghost use Rattle.text.specs.Text.{text_read};
 ghost use Rattle.text.specs.Ending.{text_ends};
 
-use crate::checking::line_fault;
+use crate::checking::past_line;
 use crate::lexer::{TextLine, line};
 use decimals::decimal;
 use files::fields::{EndField, Fields, RowFields};
@@ -29,6 +29,7 @@ fn end(field: &[u8]) -> EndField
     }
 }
 
+// Reads the fields of a row, each a part of the input that was cut but not read.
 fn row_fields(id: &[u8], start: &[u8], until: &[u8], key: &[u8], value: &[u8]) -> RowFields
     ensures { result ≡ row_from (number_in id.now, number_in start.now, end_in until.now) (number_in key.now, number_in value.now) }
 {
@@ -77,9 +78,7 @@ impl Form for Text {
     ghost ends = { λ bs rest f e. text_ends bs rest f e };
 
     fn fields(bytes: &[u8]) -> Result<(Fields, &[u8]), Refusal> {
-        if let Some(refusal) = line_fault(bytes) {
-            return Err(refusal);
-        }
+        past_line(bytes)?;
         let (line, rest) = line(bytes);
         Ok((fields_of(line), rest))
     }

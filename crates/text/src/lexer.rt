@@ -2,7 +2,7 @@
 ghost use Rattle.std.specs.Prelude.{◌≡◌, position};
 ghost use Rattle.text.specs.Lines.{parts, front, back, field_at, past, tail, line_as, line_cut};
 
-// A line's fields.
+// A line's fields: each is a part of the input, cut but not read.
 #[derive(Clone, Copy, Debug)]
 pub enum TextLine<'a> {
     Insert {
@@ -94,7 +94,7 @@ fn past_first(bytes: &[u8]) -> &[u8]
 }
 
 // The line that the bytes begin with, cut at each space, and the bytes after its line feed. Bytes that begin with no letter of
-// a kind are a CTI with an empty time, and all of them are left.
+// a kind are a CTI with an empty time, and all of them are left: the check before it refuses such bytes, so nothing reads that CTI.
 pub fn line<'a>(bytes: &'a [u8]) -> (TextLine<'a>, &'a [u8])
     ensures { line_as result ≡ line_cut bytes.now }
 {

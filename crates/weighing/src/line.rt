@@ -8,6 +8,7 @@ use decimals::read_decimal;
 use refusals::refusal::Refusal;
 
 // What a number weighs whose line feed is next, and the bytes after that.
+// A test of its own for the line feed: these lines stand below the text form of events, and are weighed as they are read.
 fn line_end(number: u32, rest: &[u8]) -> Result<(Weighed, &[u8]), Refusal>
     ensures { told result ≡ line_end number rest.now }
 {

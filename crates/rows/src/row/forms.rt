@@ -8,7 +8,7 @@ use crate::span::Span;
 use refusals::refusal::Refusal;
 
 impl<P: Payload> Row<P> {
-    // The row as a store keeps it.
+    // The row as a store keeps it. A method and not a From: its name says at the call which form is meant.
     pub fn plain(self) -> PlainRow
         ensures { plain result ≡ plain_of P.Payload.pair self }
     {
@@ -22,6 +22,7 @@ impl<P: Payload> Row<P> {
 }
 
 // Zeros and the shortest span: what a list of rows with a fixed room holds where no row stands.
+// Written out: the span in it has ghost fields, and no derive makes a default over those.
 impl Default for PlainRow {
     ghost is_default = { λ r. plain r ≡ record { id = 0; start = 0; end = 1; key = 0; value = 0 } };
 
@@ -37,6 +38,7 @@ impl Default for PlainRow {
 
 impl PlainRow {
     // The row with its payload made back, or BadPayload where key or value is out of the kind's range.
+    // A method and not a TryFrom: the kind of payload is named at the call.
     pub fn typed<P: Payload>(&self) -> Result<Row<P>, Refusal>
         ensures { made_row P.Payload.pair result ≡ row_made P.Payload.kind (plain self.now) }
     {

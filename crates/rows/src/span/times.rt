@@ -60,7 +60,7 @@ impl Span {
     }
 }
 
-// The span from 0 to 1.
+// The span from 0 to 1. Written out: no derive makes a default over ghost fields.
 impl Default for Span {
     ghost is_default = { λ s. times s ≡ record { start = 0; end = 1 } };
 

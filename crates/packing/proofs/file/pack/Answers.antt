@@ -1,27 +1,21 @@
-use Rattle.std.proofs.Common.{sym, ◌∙◌}
-use Rattle.packing.proofs.Listing.{from_slice, spells, packed_ok, packed_err}
+use Rattle.std.proofs.Common.{◌≡◌, rules, sym, ◌∙◌}
+use Rattle.packing.proofs.Listing.{from_slice, packed_by, packed_told, packed_means}
 use Rattle.packing.proofs.file.pack.Goals as goal
 
-pub returns-in-Ok-write : goal.returns-in-Ok-write
-returns-in-Ok-write g c =
+pub returns : goal.returns
+returns g c =
     let pair = g.P.Payload.pair in
     let kind = g.P.Payload.kind in
     let text = c.args.text.now in
+    let side = c.args.side in
+    let count = c.len-count.result in
+    let wrote = c.write.result in
     let vs = c.as_slice.result.now in
     let col = from_slice pair vs c.in-Ok.events _ _ _ c.as_slice.ensures.value c.in-Ok.is c.in_ok-events.ensures c.new-reader.ensures.value in
+    let told : c.map_err-packed.result ≡ packed_by side count wrote = search rules in
     record {
       value =
-          packed_ok pair kind text vs col c.args.side c.args.out.now c.write.new.out c.in-Ok-write.bytes c.len.result
-          c.in-Ok-write.ensures.value (c.len.ensures ∙ sym c.as_slice.ensures.len);
-      exact = spells pair kind text vs col _ c.in-Ok-write.ensures.exact;
+          packed_told pair kind text vs col side c.args.out.now c.write.new.out wrote _ count told
+          c.write.ensures.value (c.len-count.ensures ∙ sym c.as_slice.ensures.len);
+      exact = packed_means pair kind text vs col side c.write.new.out wrote _ count told c.write.ensures.exact;
     }
-
-pub returns-clause-value : goal.returns-clause-value
-returns-clause-value g c =
-    let pair = g.P.Payload.pair in
-    let kind = g.P.Payload.kind in
-    let text = c.args.text.now in
-    let vs = c.as_slice.result.now in
-    let col = from_slice pair vs c.in-Ok.events _ _ _ c.as_slice.ensures.value c.in-Ok.is c.in_ok-events.ensures c.new-reader.ensures.value in
-    packed_err pair kind text vs col c.args.side c.args.out.now c.write.new.out c.in-Err-write.refusal c.bare.result c.on_side-in-Err-write.result
-    c.in-Err-write.ensures.value c.bare.ensures c.on_side-in-Err-write.ensures
