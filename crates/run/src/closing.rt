@@ -19,12 +19,15 @@ use refusals::refusal::Refusal;
 use rows::payload::Payload;
 use stores::store::Store;
 
-// How many lines and how many window records are written.
-#[derive(Clone, Copy)]
+// How many lines and how many window records are written. They go into the caller's slices, so how far they are written
+// stands beside them.
+#[derive(Clone, Copy, Default)]
 pub struct Written {
     pub lines: usize,
     pub windows: usize,
 }
+
+// The closings need the query and what is written, and not which sources have ended.
 
 // Closes the next window, and writes its lines from a place on.
 #[tactic(auto, using(crate::proofs::Slices::behind_kept, std::proofs::lemmas::Slice::between_to_end))]

@@ -60,8 +60,8 @@ impl<L: Payload, R: Payload, S: Store, T: Store> Run<L, R, S, T> {
     }
 }
 
-// A run with windows of a width over two sources, which writes its lines and its window records over the first places. It
-// answers END exactly where both sources have ended, and stops at the first fault; what it wrote until then stays. Where the
+// A run with windows of a width over two sources, which writes its lines and its window records over the first places. Its
+// ending is `Ok` exactly where both sources have ended; it stops at the first fault, and what it wrote until then stays. Where the
 // width is not from 1 to 604,800 it tells BadWidth, and takes nothing. The promise is that of receipts.
 pub fn run<
     L: Payload,
@@ -94,14 +94,8 @@ pub fn run<
         Ok(query) => {
             let mut run = Run {
                 query,
-                over: Over {
-                    left: false,
-                    right: false,
-                },
-                written: Written {
-                    lines: 0,
-                    windows: 0,
-                },
+                over: Over::default(),
+                written: Written::default(),
             };
             let ending = run.go(left, right, lines, windows);
             run.report(ending)

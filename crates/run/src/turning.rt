@@ -20,7 +20,7 @@ use sources::source::Source;
 use stores::store::Store;
 
 // Which sources have ended.
-#[derive(Clone, Copy)]
+#[derive(Clone, Copy, Default)]
 pub struct Over {
     pub left: bool,
     pub right: bool,
@@ -45,8 +45,8 @@ impl Over {
 }
 
 // Where a run stands: its query, which sources have ended, and what is written. The sources and the slices are handed to
-// each call: a struct that held them by `&mut` would have to say of each call what it is lent. So that what is written fits the
-// slices is said by each call too.
+// each call: a struct that held them by `&mut` would have to say of each call what it is lent. Hence each call
+// says that what is written fits the slices.
 #[derive(Drop)]
 pub struct Run<L: Payload, R: Payload, S: Store, T: Store> {
     pub query: Query<L, R, S, T>,
