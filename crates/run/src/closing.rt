@@ -11,6 +11,7 @@ ghost use Rattle.run_laws.specs.Runs.{closings};
 ghost use Rattle.run.specs.States.{places, standing};
 ghost use Rattle.run.specs.Closings.{Fits, Onward, closing_told_from, Counts, closed_turn, all_closed_turn};
 
+use crate::turning::Run;
 use query::engine::Query;
 use receipts::line::Line;
 use receipts::window::Window;
@@ -27,8 +28,6 @@ pub struct Written {
     pub windows: usize,
 }
 
-// The closings need the query and what is written, and not which sources have ended.
-
 // Closes the next window, and writes its lines from a place on.
 #[tactic(auto, using(crate::proofs::Slices::behind_kept, std::proofs::lemmas::Slice::between_to_end))]
 fn close_from<L: Payload, R: Payload, S: Store, T: Store>(
@@ -44,52 +43,48 @@ fn close_from<L: Payload, R: Payload, S: Store, T: Store>(
     query.close(&mut lines[from..])
 }
 
-// Closes once, where closing is allowed: WindowsFull where there is no place for the window record, else LinesFull where
-// there are too few for the lines. A refused closing writes nothing.
-#[tactic(auto, using(crate::proofs::CloseOnce::closes_on))]
-fn close_once<L: Payload, R: Payload, S: Store, T: Store>(
-    query: &mut Query<L, R, S, T>,
-    written: &mut Written,
-    lines: &mut [Line],
-    windows: &mut [Window],
-) -> Result<(), Refusal>
-    requires due { may_close (setup query.old) (state query.old) ≡ true }
-    requires fits { Fits written.old lines.old windows.old }
-    ensures value { (rest : Both (List Entry)) (over : Both Bool) (blame : Refusal → Fault) →
-        closed_turn (setup query.old) (places lines.old windows.old) blame (length windows.old - written.new.windows)
-        (standing (state query.new) rest over lines.new windows.new written.new) result
-        ≡ closings (setup query.old) (places lines.old windows.old) blame (length windows.old - written.old.windows)
-        (standing (state query.old) rest over lines.old windows.old written.old) }
-    ensures count { Counts written.old written.new result }
-    ensures onward { Onward query.old written.old lines.old windows.old query.new written.new lines.new windows.new }
-{
-    if windows.len() <= written.windows {
-        return Err(Refusal::WindowsFull);
+impl<L: Payload, R: Payload, S: Store, T: Store> Run<L, R, S, T> {
+    // Closes once, where closing is allowed: WindowsFull where there is no place for the window record, else LinesFull where
+    // there are too few for the lines. A refused closing writes nothing.
+    #[tactic(auto, using(crate::proofs::CloseOnce::closes_on))]
+    fn close_once(&mut self, lines: &mut [Line], windows: &mut [Window]) -> Result<(), Refusal>
+        requires due { may_close (setup self.old.query) (state self.old.query) ≡ true }
+        requires fits { Fits self.old.written lines.old windows.old }
+        ensures value { (rest : Both (List Entry)) (over : Both Bool) (blame : Refusal → Fault) →
+            closed_turn (setup self.old.query) (places lines.old windows.old) blame (length windows.old - self.new.written.windows)
+            (standing (state self.new.query) rest over lines.new windows.new self.new.written) result
+            ≡ closings (setup self.old.query) (places lines.old windows.old) blame (length windows.old - self.old.written.windows)
+            (standing (state self.old.query) rest over lines.old windows.old self.old.written) }
+        ensures count { Counts self.old.written self.new.written result }
+        ensures over { self.new.over ≡ self.old.over }
+        ensures onward { Onward self.old.query self.old.written lines.old windows.old self.new.query self.new.written lines.new windows.new }
+    {
+        if windows.len() <= self.written.windows {
+            return Err(Refusal::WindowsFull);
+        }
+        let window = close_from(&mut self.query, lines, self.written.lines).map_err(
+            |fault| fault.refusal,
+        )?;
+        windows[self.written.windows] = window;
+        self.written.lines += window.lines;
+        self.written.windows += 1;
+        Ok(())
     }
-    let window = close_from(query, lines, written.lines).map_err(|fault| fault.refusal)?;
-    windows[written.windows] = window;
-    written.lines += window.lines;
-    written.windows += 1;
-    Ok(())
-}
 
-// Closes until closing is not allowed, or a closing is refused.
-#[tactic(auto, using(crate::proofs::Slices::kept_further, crate::proofs::CloseOnce::closings_none, crate::proofs::CloseOnce::closings_moved))]
-pub fn close_all<L: Payload, R: Payload, S: Store, T: Store>(
-    query: &mut Query<L, R, S, T>,
-    written: &mut Written,
-    lines: &mut [Line],
-    windows: &mut [Window],
-) -> Result<(), Refusal>
-    requires { Fits written.old lines.old windows.old }
-    ensures value { (rest : Both (List Entry)) (over : Both Bool) (blame : Refusal → Fault) →
-        all_closed_turn blame (standing (state query.new) rest over lines.new windows.new written.new) result
-        ≡ closings (setup query.old) (places lines.old windows.old) blame (length windows.old - written.old.windows)
-        (standing (state query.old) rest over lines.old windows.old written.old) }
-    ensures onward { Onward query.old written.old lines.old windows.old query.new written.new lines.new windows.new }
-{
-    while query.may_close() {
-        close_once(query, written, lines, windows)?;
+    // Closes until closing is not allowed, or a closing is refused.
+    #[tactic(auto, using(crate::proofs::Slices::kept_further, crate::proofs::CloseOnce::closings_none, crate::proofs::CloseOnce::closings_moved))]
+    pub fn close_all(&mut self, lines: &mut [Line], windows: &mut [Window]) -> Result<(), Refusal>
+        requires { Fits self.old.written lines.old windows.old }
+        ensures value { (rest : Both (List Entry)) (over : Both Bool) (blame : Refusal → Fault) →
+            all_closed_turn blame (standing (state self.new.query) rest over lines.new windows.new self.new.written) result
+            ≡ closings (setup self.old.query) (places lines.old windows.old) blame (length windows.old - self.old.written.windows)
+            (standing (state self.old.query) rest over lines.old windows.old self.old.written) }
+        ensures over { self.new.over ≡ self.old.over }
+        ensures onward { Onward self.old.query self.old.written lines.old windows.old self.new.query self.new.written lines.new windows.new }
+    {
+        while self.query.may_close() {
+            self.close_once(lines, windows)?;
+        }
+        Ok(())
     }
-    Ok(())
 }

@@ -9,7 +9,7 @@ ghost use Rattle.run.specs.Closings.{Fits, Onward};
 ghost use Rattle.run.specs.States.{places};
 ghost use Rattle.run.specs.Turns.{sides, nothing_left, entries_of, stands, shallows, tails, turned, Spends};
 
-use crate::closing::{Written, close_all};
+use crate::closing::Written;
 use crate::feeding::{Step, feed};
 use query::engine::Query;
 use receipts::line::Line;
@@ -99,9 +99,8 @@ impl<L: Payload, R: Payload, S: Store, T: Store> Run<L, R, S, T> {
             }
             Step::Accepted => Ok(()),
             Step::Advanced(place) => {
-                close_all(&mut self.query, &mut self.written, lines, windows).map_err(
-                    |why| place.run_fault(side, why),
-                )
+                self.close_all(lines, windows)
+                    .map_err(|why| place.run_fault(side, why))
             }
         }
     }

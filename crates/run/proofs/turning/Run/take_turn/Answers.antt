@@ -63,8 +63,8 @@ returns-in-Advanced-clause-value g c =
     let made : fed (Ok (step.Advanced at)) (state c.feed.new.query) ≡ stepped (setup c.args.self.now.query) q c.next_side-side.result
     (pick c.next_side-side.result (shallows srcs)) = rw c.in-Advanced.is at c.in_ok-feed.ensures.value.0 in
     let told : c.map_err.result ≡ faulted (run_fault c.next_side-side.result at.depth at.number) c.close_all.result = search rules in
-    advanced_turn (setup c.args.self.now.query) q (state c.feed.new.query) srcs srcs' c.args.lines.now c.args.windows.now
+    rw c.close_all.ensures.over (advanced_turn (setup c.args.self.now.query) q (state c.feed.new.query) srcs srcs' c.args.lines.now c.args.windows.now
     (sides c.args.self.now.over) c.args.self.now.written c.next_side-side.result c.next_side-side.ensures c.feed.ensures.after
     at made (setup c.feed.new.query) c.feed.ensures.value.1
-    (standing (state c.close_all.new.query) (entries_of srcs') (sides c.args.self.now.over) c.close_all.new.lines c.close_all.new.windows c.close_all.new.written)
-    c.close_all.result c.requires.fits.1 (c.close_all.ensures.value _ _ _) c.map_err.result told
+    (standing (state c.close_all.new.self.query) (entries_of srcs') (sides c.args.self.now.over) c.close_all.new.lines c.close_all.new.windows c.close_all.new.self.written)
+    c.close_all.result c.requires.fits.1 (c.close_all.ensures.value _ _ _) c.map_err.result told)
