@@ -20,6 +20,8 @@ fn numbers_len(numbers: &[u32]) -> usize
     numbers.iter().map(|n| groups_len(*n)).sum()
 }
 
+// The slice and a place in it stand side by side from here on: a struct that held the slice by `&mut` would have to say of each
+// call what it is lent.
 fn put_number(out: &mut [u8], at: usize, n: u32) -> usize
     requires { at + length (groups_of n) ≤ length out.old }
     ensures place { result ≡ at + length (groups_of n) }

@@ -15,6 +15,7 @@ use rows::payload::Payload;
 fn judge_all<P: Payload>(events: &[Event<P>]) -> Result<(), Refusal>
     ensures { result ≡ (if all_timely P.Payload.pair events.now then Ok tt else Err BadTime) }
 {
+    // A plain loop: of a `try_for_each` a proof knows the events by their places, and the law goes down the list.
     for event in events {
         event.judge_times()?;
     }
@@ -25,16 +26,10 @@ fn judge_all<P: Payload>(events: &[Event<P>]) -> Result<(), Refusal>
 fn fit<P: Payload>(events: &[Event<P>], room: usize) -> bool
     ensures { result ≡ nat_le (length (file_bytes P.Payload.pair events.now)) room }
 {
-    // A plain loop: the sum of all lengths may be larger than any number, so it stops where the room does.
-    let mut left = room;
-    for event in events {
-        let len = event_len(*event);
-        if len > left {
-            return false;
-        }
-        left -= len;
-    }
-    true
+    events
+        .iter()
+        .try_fold(0usize, |sum, event| sum.checked_add(event_len(*event)))
+        .is_some_and(|sum| sum <= room)
 }
 
 fn put_events<P: Payload>(events: &[Event<P>], out: &mut [u8]) -> usize

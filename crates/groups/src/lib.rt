@@ -79,6 +79,8 @@ fn has_room(len: usize, at: usize, n: u32) -> bool
 }
 
 // Writes the groups of a number from the place `at` on, and tells the place after them.
+// The slice and a place in it stand side by side: a struct that held the slice by `&mut` would have to say of each call what it
+// is lent.
 fn put_all(out: &mut [u8], at: usize, n: u32) -> usize
     requires { at + length (groups_of n) ≤ length out.old }
     ensures place { result ≡ at + length (groups_of n) }

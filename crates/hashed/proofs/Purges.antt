@@ -2,6 +2,7 @@
 use Rattle.std.proofs.Common.{◌≡◌, ℕ, zero, suc, ◌+◌, ◌<◌, ◌≤◌, Bool, true, false, cond, ltb, List, [], ◌∷◌, ◌++◌, length, get_or, take, Some, Result, sym, refl, ap, ◌∙◌, subst, arith}
 use Rattle.std.proofs.lemmas.List.{take_more, append-nil, length-take}
 use Rattle.std.proofs.lemmas.Bool.{cond-true, cond-false, le-ltb, lt-ltb, ne_eqb, or_from}
+use Rattle.std.specs.Result.{is_ok, IsOk}
 use Rattle.refusals.specs.declared.refusal.Refusal.{Refusal}
 use Rattle.rows.specs.Rows.{Plain}
 use Rattle.receipts.specs.Stores.{Above, Rising, nth_row, holds_id, placed, kept, Outcome, accept, adds}
@@ -76,11 +77,15 @@ module _ (g i : ℕ) (m : List Plain) (x : Plain) (within : i < length m) (read 
     pub kept_place : length front ≡ place x.id front
     kept_place = sym (last_place front x rising_more)
 
-    pub kept_added : length m ≤ 256 → (a : Result (Unit {0}) Refusal) (new : List Plain) → outcome a new ≡ adds 256 x front → new ≡ kept g (take (i + 1) m)
-    kept_added room a new told =
-        ap (λ (o : Outcome (List Plain)). o.after) (told ∙ sym (last_added front x rising_more
-        (omega (arith, ap length is, kept_le g (take i m), length-take i m))))
-        ∙ ap (λ z. z ++ x ∷ []) is ∙ sym (kept_more stays)
+    module _ (room : length m ≤ 256) (a : Result (Unit {0}) Refusal) (new : List Plain) (told : outcome a new ≡ adds 256 x front) where
+      added : outcome a new ≡ accept (front ++ x ∷ [])
+      added = told ∙ sym (last_added front x rising_more (omega (arith, ap length is, kept_le g (take i m), length-take i m)))
+
+      pub added_ok : IsOk a
+      added_ok = ap (λ (o : Outcome (List Plain)). is_ok o.answer) added
+
+      pub kept_added : new ≡ kept g (take (i + 1) m)
+      kept_added = ap (λ (o : Outcome (List Plain)). o.after) added ∙ ap (λ z. z ++ x ∷ []) is ∙ sym (kept_more stays)
 
 -- every row is kept
 pub kept_all : (m : List Plain) → kept 0 m ≡ m

@@ -14,7 +14,8 @@ use tables::table::{CAPACITY, Table};
 
 pub mod calls;
 
-// How many slots may be deleted: with 256 rows at most, 128 of the 512 slots are then empty, and a search ends at each.
+// How many slots may be deleted.
+// At least 128 of the 512 slots stay empty, since at most 256 hold rows, and a search ends at any of them.
 const MOST_REMOVALS: usize = 128;
 
 // `removals` counts the rows that went since the table was built.

@@ -10,9 +10,11 @@ use std::alloc::AllocError;
 
 pub mod calls;
 
+const CAPACITY: usize = 128;
+
 #[derive(Drop)]
 pub struct SortedStore {
-    rows: ArrayVec<PlainRow, 128>,
+    rows: ArrayVec<PlainRow, CAPACITY>,
     ghost within: { length rows.items ≤ 128 },
     ghost rising: { Rising (map plain rows.items) } by { Rising-prop (map plain rows.items) },
 }

@@ -64,6 +64,7 @@ impl Naive {
     pub(crate) fn set_end(&mut self, id: u32, end: u32) -> Result<(), Refusal> {
         let place = self.place_of(id).ok_or(Refusal::NoSuchRow)?;
         let start = self.rows[place].span.start();
+        // Written out, as a second opinion on the rule.
         if start >= end || (end > 4_000_000_000 && end != 4_294_967_295) {
             return Err(Refusal::BadTime);
         }

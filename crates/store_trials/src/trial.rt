@@ -48,8 +48,8 @@ impl<S: Store + Drop> Trial<S> {
         }
     }
 
-    // One call of each kind by chance; adding is the commonest, so that the store fills. A `match`, since a range of draws, and no
-    // name, stands for each call.
+    // One call of each kind by chance; adding is the commonest, so that the store fills.
+    // A `match`: each call is told by a range of draws.
     pub(crate) fn step(&mut self) -> Result<(), AllocError> {
         let same = match self.draws.below(32) {
             0..=13 => self.adds()?,

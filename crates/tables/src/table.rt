@@ -15,6 +15,8 @@ pub const CAPACITY: usize = 256;
 
 // Rows in slots, each id once. The search for an id begins at the slot that its hash names, goes from slot to slot, and
 // ends at the row, or at an empty slot.
+// The slots are a fixed number of places, so that the table needs no heap; `count` is how many of them hold rows, not how many
+// there are.
 #[derive(Clone, Copy)]
 pub struct Table {
     slots: [Slot; SLOTS],

@@ -74,7 +74,8 @@ impl HashedStore {
             let row = self.table.row_in(entry.slot as usize).unwrap();
             if row.span.end() >= below {
                 let last = fresh.entries.len();
-                let _ = fresh.insert(last, row);
+                // The rows come in rising order, each id once, and are no more than were held, so that none is refused.
+                fresh.insert(last, row).unwrap();
             }
         }
         fresh

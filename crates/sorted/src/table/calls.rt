@@ -4,7 +4,7 @@ ghost use Rattle.std.proofs.Common.{lit≤};
 ghost use Rattle.stores.proofs.Plains.{within_plain, numbered_plain, standing_plain};
 ghost use Rattle.sorted.specs.Model.{held, spot};
 
-use crate::table::SortedStore;
+use crate::table::{CAPACITY, SortedStore};
 use arrayvec::ArrayVec;
 use refusals::refusal::Refusal;
 use rows::row::PlainRow;
@@ -22,7 +22,7 @@ impl SortedStore {
 }
 
 impl Store for SortedStore {
-    const CAPACITY: usize = 128;
+    const CAPACITY: usize = CAPACITY;
 
     ghost CAPACITY = { 128 };
 

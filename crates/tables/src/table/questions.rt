@@ -37,7 +37,7 @@ impl Table {
         ensures { (p : Slot → Bool) → Computes p (FnReturnsAt F.Fn stops) → result ≡ probed p id self.now.slots }
     {
         let home = home_of(id);
-        // By steps from home: a chain of the two ranges of slots would have to tell of each slot that it is one of the table.
+        // A plain loop: of a chain that calls the closure it was given, a proof does not know which slot it stopped at.
         for step in 0..SLOTS {
             let slot = (home + step) % SLOTS;
             if stops(&self.slots[slot]) {

@@ -6,7 +6,7 @@ use Rattle.stores.specs.Told.{seen}
 use Rattle.hashed.specs.declared.store.HashedStore.{HashedStore}
 use Rattle.hashed.specs.Laws.{length_held, within_held}
 use Rattle.hashed.specs.Model.{held}
-use Rattle.hashed.proofs.Purges.{gone_more, kept_place, kept_added}
+use Rattle.hashed.proofs.Purges.{gone_more, kept_place, added_ok, kept_added}
 use Rattle.hashed.proofs.State.{nth_told, there_told}
 use Rattle.hashed.proofs.store.HashedStore.rebuilt.Goals as goal
 use Rattle.hashed.proofs.store.HashedStore.rebuilt.Goals.{then-end-below, else-end-below}
@@ -23,6 +23,16 @@ insert-requires c =
     c.len-last.ensures.value ∙ c.loop-entry.fresh.counted ∙ sym (length_held c.loop-entry.fresh)
     ∙ kept_place c.args.below i (held s) (plain c.unwrap-row.result) (omega (arith, length_held s, s.counted, ap length is, c.loop-entry-test.true)) read
     s.rising (omega (arith, c.end.ensures, c.if-end-below.true)) (held c.loop-entry.fresh) c.loop-entry.invariant.0
+
+pub unwrap-requires : goal.unwrap-requires
+unwrap-requires c =
+    let s = c.args.self.now in
+    let i = c.loop-entry.entry-index in
+    let is = c.as_slice-entry-items.ensures.value in
+    let within : i < length (held s) = omega (arith, length_held s, s.counted, ap length is, c.loop-entry-test.true) in
+    let read : Some (plain c.unwrap-row.result) ≡ nth_row i (held s) = sym (ap seen c.unwrap-row.ensures) ∙ c.row_in.ensures ∙ sym (nth_told s _ is i _ c.loop-entry-test.true) in
+    added_ok c.args.below i (held s) (plain c.unwrap-row.result) within read s.rising (omega (arith, c.end.ensures, c.if-end-below.true))
+    (held c.loop-entry.fresh) c.loop-entry.invariant.0 (within_held s) _ _ c.insert.ensures.told
 
 pub loop-entry-preserved : goal.loop-entry-preserved
 loop-entry-preserved c =
