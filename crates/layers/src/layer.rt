@@ -11,7 +11,7 @@ use rows::payload::Payload;
 use rules::rule::RowRule;
 use sources::source::{DEEPEST, Numbered, Source};
 
-// The source below, the rule, and the fault that the layer has met.
+// The source below, the rule, and the fault that the layer has met, if any: it is told again and again.
 #[derive(Drop)]
 pub struct Layer<S, R> {
     below: S,

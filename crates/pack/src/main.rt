@@ -50,6 +50,7 @@ fn main(rt: HostRuntime) -> anyhow::Result<()> {
             Ok(())
         }
         Err(fault) => {
+            // A fault of the writer names no event, and is told as at event 0.
             let event = fault.event.unwrap_or(0);
             let why = fault.refusal;
             println!(rt; "{fault}")?;

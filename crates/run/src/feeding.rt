@@ -13,11 +13,8 @@ use refusals::fault::{Fault, Side};
 use refusals::refusal::Refusal;
 use rows::event::Event;
 use rows::payload::Payload;
-use sources::source::{Numbered, Source};
+use sources::source::{DEEPEST, Numbered, Source};
 use stores::store::Store;
-
-// The greatest depth of a source.
-const DEEPEST: u32 = 65_535;
 
 // Where an event stands: its source's depth, and its number there.
 #[derive(Clone, Copy)]

@@ -15,6 +15,7 @@ fn main(rt: HostRuntime) -> anyhow::Result<()> {
     match report.fault {
         None => Ok(()),
         Some(fault) => {
+            // Each fault of an input names its line.
             let line = fault.event.unwrap_or(0);
             let why = fault.refusal;
             println!(rt; "{fault}")?;
