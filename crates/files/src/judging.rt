@@ -61,14 +61,18 @@ fn row_of<P: Payload>(fields: RowFields) -> Result<Row<P>, Refusal>
 pub fn event_of<P: Payload>(fields: Fields) -> Result<Event<P>, Refusal>
     ensures { judged_as P.Payload.pair result ≡ judged P.Payload.kind fields }
 {
-    let event = match fields {
-        Fields::Insert(row) => Event::Insert(row_of(row)?),
-        Fields::Retraction { row, new_end } => Event::Retraction {
-            row: row_of(row)?,
-            new_end: end_of(new_end)?,
-        },
-        Fields::Cti(time) => Event::Cti(time),
-    };
-    event.judge_times()?;
-    Ok(event)
+    match fields {
+        Fields::Insert(row) => Ok(Event::Insert(row_of(row)?)),
+        Fields::Retraction { row, new_end } => {
+            // Judged here, and not by the event's own method: each kind has its times judged where its fields are told.
+            let row = row_of(row)?;
+            let new_end = end_of(new_end)?;
+            if row.span.takes_end(new_end) {
+                Ok(Event::Retraction { row, new_end })
+            } else {
+                Err(Refusal::BadTime)
+            }
+        }
+        Fields::Cti(time) => Ok(Event::Cti(finite(time)?)),
+    }
 }
