@@ -37,7 +37,7 @@ impl Table {
         ensures { (p : Slot → Bool) → Computes p (FnReturnsAt F.Fn stops) → result ≡ probed p id self.now.slots }
     {
         let home = home_of(id);
-        // A plain loop: of a chain that calls the closure it was given, a proof does not know which slot it stopped at.
+        // A plain loop: a chain of places would have to tell of each that it is one of the table, and of all that none stops.
         for step in 0..SLOTS {
             let slot = (home + step) % SLOTS;
             if stops(&self.slots[slot]) {
