@@ -52,7 +52,8 @@ fn put_spelled(out: &mut [u8], at: usize, kind: EventKind, numbers: &[u32]) -> u
     put_numbers(out, at + 1, numbers)
 }
 
-// The numbers of an insert, in the order of its fields.
+// The numbers of an insert, in the order of its fields. That they are numbers of 32 bits is said by each function that makes
+// some: a plain array of numbers tells a proof nothing of its elements.
 fn inserted<P: Payload>(row: Row<P>) -> [u32; 5]
     ensures value { result ≡ numbers_of (insert (plain_of P.Payload.pair row)) }
     ensures small { Small (numbers_of (insert (plain_of P.Payload.pair row))) }

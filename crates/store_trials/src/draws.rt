@@ -20,7 +20,7 @@ impl Draws {
         x
     }
 
-    // A number below `bound`, and 0 where there is none.
+    // A number below `bound`, and 0 where there is none, so that a trial goes on.
     pub(crate) fn below(&mut self, bound: u32) -> u32 {
         let x = self.next();
         if bound == 0 { 0 } else { x % bound }
