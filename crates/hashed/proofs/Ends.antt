@@ -1,6 +1,7 @@
 -- A row whose end is set.
 use Rattle.std.proofs.Common.{◌≡◌, ℕ, List, get_or, set, Some, None, Ok, Err, Option, sym, ap, ◌∙◌}
 use Rattle.std.proofs.lemmas.Bool.{false≢true}
+use Rattle.lists.specs.Lists.{listed}
 use Rattle.refusals.specs.declared.refusal.Refusal.{Refusal}
 use Rattle.rows.specs.declared.span.Span.{Span}
 use Rattle.rows.specs.Rows.{Plain, with_end}
@@ -48,10 +49,10 @@ module _ (s : HashedStore) (id i : ℕ) (here : slot_of id (cells s.table) ≡ S
           ∙ ap (λ n. spanned n span.end (Some x)) (good.1 ∙ started) ∙ ap (λ n. spanned x.start n (Some x)) good.2 in
           told ∙ ap (set cs i) (cell ∙ ap (λ z. Some (with_end e z)) (sym here))
 
-      pub set_kept : Kept t s.entries.items
+      pub set_kept : Kept t (listed s.entries)
       set_kept = end_kept s t id i here e ended
 
-      pub set_done : accept (rows_in (cells t) (slots s.entries.items)) ≡ sets id e (held s)
+      pub set_done : accept (rows_in (cells t) (slots (listed s.entries))) ≡ sets id e (held s)
       set_done =
           ap accept (end_rows s t id i here e ended)
           ∙ sets_done id (held s) e x row_told (ap (λ n. lawful n e) (sym started) ∙ (span_good start e (times span) made).0)

@@ -4,6 +4,7 @@ use Rattle.std.proofs.Common.{arith, sym, ap, subst, ◌∙◌}
 use Rattle.std.proofs.lemmas.List.{get_or-map, length-map}
 use Rattle.std.proofs.lemmas.List.Sums.{sum_by-cons}
 use Rattle.std.specs.List.Sorted.{IsNonDecreasingBy}
+use Rattle.lists.specs.Lists.{listed}
 use Rattle.rows.specs.declared.row.PlainRow.{PlainRow}
 use Rattle.rows.specs.Rows.{Plain}
 use Rattle.receipts.specs.Stores.{Rising, nth_row}
@@ -20,7 +21,7 @@ use Rattle.hashed.specs.Laws.{length_held}
 use Rattle.hashed.specs.Model.{held}
 use Rattle.hashed.proofs.Changes.{Good, nth_at}
 
-pub good_of : (s : HashedStore) → Good (cells s.table) (ids s.entries.items) (slots s.entries.items)
+pub good_of : (s : HashedStore) → Good (cells s.table) (ids (listed s.entries)) (slots (listed s.entries))
 good_of s = record { named = s.named; rising = s.rising; matched = s.matched }
 
 -- the place of an id among the ids
@@ -30,10 +31,10 @@ rises_ids m rising i j d le lt =
     let up = rises_rising m rising i j (or_blank None) le (omega arith) in
     omega (arith, up, get_or-map id_of m i (or_blank None) d (omega arith), get_or-map id_of m j (or_blank None) d (omega arith))
 
-pub place_told : (s : HashedStore) (id k : ℕ) (xs : List Entry) → xs ≡ s.entries.items
+pub place_told : (s : HashedStore) (id k : ℕ) (xs : List Entry) → xs ≡ listed s.entries
     → (IsNonDecreasingBy (λ (e : Entry). e.id) xs → k ≡ below (λ (e : Entry). e.id) id xs) → k ≡ place id (held s)
 place_told s id k xs is told =
-    let es = s.entries.items in
+    let es = listed s.entries in
     let up : IsNonDecreasingBy (λ (n : ℕ). n) (ids es) = subst (IsNonDecreasingBy (λ (n : ℕ). n)) (sym s.named) (rises_ids (held s) s.rising) in
     subst (λ z. IsNonDecreasingBy (λ (e : Entry). e.id) z → k ≡ below (λ (e : Entry). e.id) id z) is told (rises_entries es up)
     ∙ sym (below_map (λ (n : ℕ). n) (λ (e : Entry). e.id) id es) ∙ ap (below (λ (n : ℕ). n) id) s.named ∙ below_map (λ (n : ℕ). n) id_of id (held s)
@@ -44,15 +45,15 @@ place_told s id k xs is told =
         omega (arith, up i j d.id le (omega arith), get_or-map (λ (e : Entry). e.id) es i d d.id (omega arith), get_or-map (λ (e : Entry). e.id) es j d d.id lt)
 
 -- the row at a place, through the entry that was read there
-pub nth_told : (s : HashedStore) (xs : List Entry) → xs ≡ s.entries.items → (k : ℕ) (d : Entry) → k < length xs → nth_row k (held s) ≡ slice_index_or (cells s.table) (get_or xs k d).slot None
+pub nth_told : (s : HashedStore) (xs : List Entry) → xs ≡ listed s.entries → (k : ℕ) (d : Entry) → k < length xs → nth_row k (held s) ≡ slice_index_or (cells s.table) (get_or xs k d).slot None
 nth_told s xs is k d l =
-    let long = length-map s.entries.items (λ (e : Entry). e.slot) in
-    let here : k < length s.entries.items = omega (arith, ap length is) in
+    let long = length-map (listed s.entries) (λ (e : Entry). e.slot) in
+    let here : k < length (listed s.entries) = omega (arith, ap length is) in
     nth_at (cells s.table) _ _ (good_of s) k d.slot (omega arith)
-    ∙ ap (λ i. get_or (cells s.table) i None) (get_or-map (λ (e : Entry). e.slot) s.entries.items k d d.slot here ∙ ap (λ zs. (get_or zs k d).slot) (sym is))
+    ∙ ap (λ i. get_or (cells s.table) i None) (get_or-map (λ (e : Entry). e.slot) (listed s.entries) k d d.slot here ∙ ap (λ zs. (get_or zs k d).slot) (sym is))
 
 -- and there is one
-pub there_told : (s : HashedStore) (xs : List Entry) → xs ≡ s.entries.items → (k : ℕ) (d : Entry) → k < length xs → (o : Option PlainRow)
+pub there_told : (s : HashedStore) (xs : List Entry) → xs ≡ listed s.entries → (k : ℕ) (d : Entry) → k < length xs → (o : Option PlainRow)
     → seen o ≡ slice_index_or (cells s.table) (get_or xs k d).slot None → is_some o ≡ true
 there_told s xs is k d l o e =
     some_seen o _ (e ∙ sym (nth_told s xs is k d l) ∙ nth_get_or k (held s) (or_blank None) (omega (arith, length_held s, s.counted, ap length is)))

@@ -1,8 +1,11 @@
 -- A store after its table and its entries have changed.
-use Rattle.std.proofs.Common.{◌≡◌, ℕ, ◌+◌, ◌<◌, ◌≤◌, true, false, List, length, get_or, set, is_some, Some, None, Ok, Err, Option, sym, refl, ap, ◌∙◌, subst, ⊎_elim, arith}
+use Rattle.std.proofs.Common.{◌≡◌, ℕ, ◌+◌, ◌<◌, ◌≤◌, true, false, List, length, get_or, set, is_some, Some, None, Ok, Err, Option, Result, sym, refl, ap, ◌∙◌, subst, ⊎_elim, arith}
 use Rattle.std.proofs.lemmas.List.{length-map}
+use Rattle.std.proofs.lemmas.List.Edits.{length-insert, length-remove}
 use Rattle.std.proofs.lemmas.Bool.{false≢true, true≢false}
 use Rattle.std.specs.List.{insert, remove}
+use Rattle.std.specs.Result.{IsOk, OnOk}
+use Rattle.lists.specs.Lists.{listed}
 use Rattle.refusals.specs.declared.refusal.Refusal.{Refusal}
 use Rattle.rows.specs.Rows.{Plain, with_end}
 use Rattle.receipts.specs.Stores.{holds_id, end_set, without, accept, refuse, adds}
@@ -26,6 +29,11 @@ use Rattle.hashed.proofs.Held.{has_some, row_there}
 use Rattle.hashed.proofs.Changes.{Good, held_at, absent_at, rows_put, good_put, slot_within, rows_end, good_end, place_within, rows_cut, good_cut}
 use Rattle.hashed.proofs.State.{good_of}
 
+-- what is told of a call that is done
+pub done_told : {E P : Type 0} (r : Result (Unit {0}) E) → OnOk r P → IsOk r → P
+done_told (Ok x) ok is = ok
+done_told (Err e) ok is = absurd (false≢true is)
+
 -- what a store's fields tell, of a table and entries
 pub record Kept (t : Table) (es : List Entry) : Type 0 where
   pub counted : length es ≡ filled (cells t)
@@ -36,18 +44,18 @@ good_is {cs} {new} {xs} {ys} a more fresh b c good =
     subst (λ z. Good z more fresh) (sym a) (subst (λ z. Good cs z fresh) (sym b) (subst (λ z. Good cs xs z) (sym c) good))
 
 -- a table that holds what it held
-pub same_kept : (s : HashedStore) (t : Table) → cells t ≡ cells s.table → Kept t s.entries.items
-same_kept s t e = record { counted = s.counted ∙ ap filled (sym e); good = subst (λ cs. Good cs (ids s.entries.items) (slots s.entries.items)) (sym e) (good_of s) }
+pub same_kept : (s : HashedStore) (t : Table) → cells t ≡ cells s.table → Kept t (listed s.entries)
+same_kept s t e = record { counted = s.counted ∙ ap filled (sym e); good = subst (λ cs. Good cs (ids (listed s.entries)) (slots (listed s.entries))) (sym e) (good_of s) }
 
-pub same_rows : (s : HashedStore) (t : Table) → cells t ≡ cells s.table → rows_in (cells t) (slots s.entries.items) ≡ held s
-same_rows s t e = ap (λ cs. rows_in cs (slots s.entries.items)) e
+pub same_rows : (s : HashedStore) (t : Table) → cells t ≡ cells s.table → rows_in (cells t) (slots (listed s.entries)) ≡ held s
+same_rows s t e = ap (λ cs. rows_in cs (slots (listed s.entries))) e
 
 module _ (s : HashedStore) where
   abbrev cs : List (Option Plain)
   cs = cells s.table
 
   abbrev es : List Entry
-  es = s.entries.items
+  es = listed s.entries
 
   -- a row that the table refuses
   pub refused : (t : Table) (r : Plain) (why : Refusal) → placing (Err why) (cells t) ≡ puts r cs → (cells t ≡ cs) × (refuse why (held s) ≡ adds 256 r (held s))
@@ -86,7 +94,10 @@ module _ (s : HashedStore) where
     within = omega (arith, free.0, length_cells s.table)
 
     -- its entry is put in at the place of its id
-    module _ (e : Entry) (its : (e.id ≡ r.id) × (e.slot ≡ i)) (new : List Entry) (put : new ≡ insert es at e) (long : length new ≡ length es + 1) where
+    module _ (e : Entry) (its : (e.id ≡ r.id) × (e.slot ≡ i)) (new : List Entry) (put : new ≡ insert es at e) where
+      one_more : length new ≡ length es + 1
+      one_more = ap length put ∙ length-insert es at e put_room.0
+
       new_ids : ids new ≡ insert (ids es) (place r.id (held s)) r.id
       new_ids = ap ids put ∙ map_inserted (λ (z : Entry). z.id) es at e ∙ ap (λ k. insert (ids es) k e.id) here ∙ ap (insert (ids es) (place r.id (held s))) its.0
 
@@ -95,7 +106,7 @@ module _ (s : HashedStore) where
 
       pub put_kept : Kept t new
       put_kept = record {
-        counted = omega (arith, long, s.counted, ap filled (put_told r cs (cells t) i told).after, filled_more cs i r within free.1);
+        counted = omega (arith, one_more, s.counted, ap filled (put_told r cs (cells t) i told).after, filled_more cs i r within free.1);
         good = good_is (put_told r cs (cells t) i told).after _ _ new_ids new_slots (good_put cs _ _ (good_of s) r i free.1 within absent);
       }
 
@@ -128,16 +139,19 @@ module _ (s : HashedStore) where
       lone : (j : ℕ) → has_id id (get_or cs j None) ≡ true → j ≡ i
       lone j h = alone s.table j i id h (slot_of_has id cs i found)
 
-      pub cut_room : at < length es
+      cut_room : at < length es
       cut_room = omega (arith, place_within cs _ _ (good_of s) id i found lone, length-map es (λ (z : Entry). z.slot))
 
-      module _ (new : List Entry) (cut : new ≡ remove es at) (long : length new + 1 ≡ length es) where
+      module _ (new : List Entry) (cut : new ≡ remove es at) where
+        one_less : length new + 1 ≡ length es
+        one_less = omega (arith, ap length cut, length-remove es at cut_room)
+
         left_slots : slots new ≡ remove (slots es) (place id (held s))
         left_slots = ap slots cut ∙ map_removed (λ (z : Entry). z.slot) es at ∙ ap (remove (slots es)) here
 
         pub cut_kept : Kept t new
         cut_kept = record {
-          counted = omega (arith, long, s.counted, ap filled told, filled_less cs i _ inside there);
+          counted = omega (arith, one_less, s.counted, ap filled told, filled_less cs i _ inside there);
           good = good_is told _ _ (ap ids cut ∙ map_removed (λ (z : Entry). z.id) es at ∙ ap (remove (ids es)) here) left_slots (good_cut cs _ _ (good_of s) id i found lone);
         }
 

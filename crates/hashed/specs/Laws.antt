@@ -1,7 +1,14 @@
 -- A store keeps the laws of stores: its rows are few, and each is one of the code.
+--     few t                       a table holds at most 256 rows
+--     length_rows cs es           there is a row for each entry
+--     length_held s               a store holds as many rows as its table
+--     within_held s               and so at most 256
+--     numbered_rows t slots       each id is one of the code
+--     standing_rows t slots       each row's times are lawful
 use Rattle.std.specs.Prelude.{◌≡◌, ℕ, ◌≤◌, true, List, [], ◌∷◌, length, Option, slice_index_or, refl}
 use Rattle.std.proofs.Common.{arith, sym, ap, subst, ◌∙◌, lit≤}
 use Rattle.std.proofs.lemmas.List.{length-map}
+use Rattle.lists.specs.Lists.{listed}
 use Rattle.rows.specs.Rows.{Plain, standing}
 use Rattle.stores.specs.Told.{Numbered, Standing}
 use Rattle.stores.proofs.Plains.{span_lawful}
@@ -24,7 +31,7 @@ pub length_rows : (cs : List (Option Plain)) (es : List Entry) → length (rows_
 length_rows cs es = length-map (slots es) (row_in cs) ∙ length-map es (λ (e : Entry). e.slot)
 
 pub length_held : (s : HashedStore) → length (held s) ≡ filled (cells s.table)
-length_held s = length_rows (cells s.table) s.entries.items ∙ s.counted
+length_held s = length_rows (cells s.table) (listed s.entries) ∙ s.counted
 
 pub within_held : (s : HashedStore) → length (held s) ≤ 256
 within_held s = omega (arith, length_held s, few s.table)

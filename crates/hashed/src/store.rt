@@ -1,5 +1,6 @@
 // A hashed store: the rows in a table, and an entry for each in rising id order.
 ghost use Rattle.std.specs.Prelude.{◌≡◌, ◌≤◌, map, length};
+ghost use Rattle.lists.specs.Lists.{listed};
 ghost use Rattle.receipts.specs.Stores.{Rising};
 ghost use Rattle.stores.specs.Places.{id_of};
 ghost use Rattle.stores.proofs.Order.{Rising-prop};
@@ -8,7 +9,7 @@ ghost use Rattle.tables.specs.Tables.{cells, deleted};
 ghost use Rattle.hashed.specs.Listing.{ids, slots, rows_in, Matched};
 
 use crate::entry::Entry;
-use arrayvec::ArrayVec;
+use lists::list::ArrayList;
 use std::alloc::AllocError;
 use tables::table::{CAPACITY, Table};
 
@@ -19,33 +20,29 @@ pub mod calls;
 const MOST_REMOVALS: usize = 128;
 
 // `removals` counts the rows that went since the table was built.
-#[derive(Drop)]
 pub struct HashedStore {
     table: Table,
-    entries: ArrayVec<Entry, CAPACITY>,
+    entries: ArrayList<Entry, CAPACITY>,
     removals: usize,
-    ghost counted: { length entries.items ≡ filled (cells table) },
-    ghost named: { ids entries.items ≡ map id_of (rows_in (cells table) (slots entries.items)) },
-    ghost rising: { Rising (rows_in (cells table) (slots entries.items)) } by { Rising-prop (rows_in (cells table) (slots entries.items)) },
-    ghost matched: { Matched (cells table) (slots entries.items) },
+    ghost counted: { length (listed entries) ≡ filled (cells table) },
+    ghost named: { ids (listed entries) ≡ map id_of (rows_in (cells table) (slots (listed entries))) },
+    ghost rising: { Rising (rows_in (cells table) (slots (listed entries))) } by { Rising-prop (rows_in (cells table) (slots (listed entries))) },
+    ghost matched: { Matched (cells table) (slots (listed entries)) },
     ghost worn: { deleted table ≤ removals },
     ghost recent: { removals ≤ 128 },
 }
 
-// Written out, since no derive copies a struct with ghost fields.
+// Written out, so that a clause says what a clone is.
 impl Clone for HashedStore {
     ghost use Rattle.std.specs.Prelude.{◌≡◌, ⊤};
-    ghost use Rattle.hashed.specs.Model.{held};
 
-    ghost is_clone = { λ s t. held t ≡ held s };
+    ghost is_clone = { λ s t. t ≡ s };
 
     ghost is_infallible = { λ _. ⊤ };
 
     fn clone(&self) -> Result<HashedStore, AllocError> {
-        Ok(HashedStore {
-            table: self.table,
-            entries: self.entries.clone()?,
-            removals: self.removals,
-        })
+        Ok(*self)
     }
 }
+
+impl Copy for HashedStore {}

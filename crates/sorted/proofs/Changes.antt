@@ -1,14 +1,12 @@
 -- What the answer of a search tells a call, and what the calls leave.
 use Rattle.std.proofs.Common.{◌≡◌, ℕ, ◌<◌, ◌≤◌, Bool, true, false, cond, not, ltb, List, [], ◌∷◌, map, length, get_or, set, Some, None, Ok, Err, Option, Result, filter, Bor, sym, refl, ap, ◌∙◌, subst, ⊎_elim, arith}
 use Rattle.std.specs.List.{insert, remove, HoldsAt}
-use Rattle.std.specs.List.Retain.{RetainsInTurn}
 use Rattle.std.specs.List.Sorted.{IsNonDecreasingBy}
 use Rattle.std.specs.Option.{MatchOption, option_copied}
 use Rattle.std.specs.Result.{MatchResult, IsOk, OnOk, OnErr, result_ok}
 use Rattle.std.proofs.lemmas.Bool.{cases_lt, true≢false}
-use Rattle.std.proofs.lemmas.List.{get_or-map, get_or_default, length-map, length-set, map-set}
-use Rattle.arrayvec.specs.ArrayVec.{ArrayVec, with_items}
-use Rattle.arrayvec.proofs.ArrayVecLemmas.{items-with_items, filter-from_retain}
+use Rattle.std.proofs.lemmas.List.{get_or-map, get_or_default, length-map, map-set}
+use Rattle.lists.specs.Lists.{Computes}
 use Rattle.refusals.specs.declared.refusal.Refusal.{Refusal}
 use Rattle.refusals.specs.declared.refusal.Refusal.TheVariants.{StoreFull}
 use Rattle.rows.specs.declared.row.PlainRow.{PlainRow}
@@ -20,7 +18,6 @@ use Rattle.receipts.specs.Stores.{Rising, found, nth_row, holds_id, placed, end_
 use Rattle.stores.specs.Told.{seen, outcome}
 use Rattle.stores.specs.Places.{below, place, has_id}
 use Rattle.stores.proofs.Edits.{map_inserted, map_removed, placed_place, without_place, end_set_place}
-use Rattle.stores.proofs.Lengths.{length_placed}
 use Rattle.stores.proofs.Order.{rising_placed, rising_without, rising_end_set}
 use Rattle.stores.proofs.Outcomes.{adds_full, adds_done, removes_done, sets_bad, sets_done}
 use Rattle.stores.proofs.Places.{holds_place, found_at_place, place_within, nth_past, nth_get_or}
@@ -76,7 +73,7 @@ row_told rows xs is k (Some x) h =
     ∙ ap Some (get_or-map plain rows k x.now (plain x.now) lt ∙ ap plain (ap (λ zs. get_or zs k x.now) (sym is) ∙ sym (h.1 x.now))))
 
 -- an add at the place where the id belongs: r is what the list of rows answers, and a what the call does
-module _ (E : Type 0) (rows new : List PlainRow) (up : Rising (map plain rows)) (few : length rows ≤ 128) (row : PlainRow) (k : ℕ)
+module _ (E : Type 0) (rows new : List PlainRow) (up : Rising (map plain rows)) (row : PlainRow) (k : ℕ)
     (absent : holds_id row.id (map plain rows) ≡ false) (at : k ≡ place row.id (map plain rows)) where
   put_rows : new ≡ insert rows k row → map plain new ≡ placed (plain row) (map plain rows)
   put_rows e =
@@ -85,11 +82,6 @@ module _ (E : Type 0) (rows new : List PlainRow) (up : Rising (map plain rows)) 
   pub add_rising : (r : Result (Unit {0}) E) → OnOk r (new ≡ insert rows k row) → OnErr r (new ≡ rows) → Rising (map plain new)
   add_rising (Ok x) ok err = subst Rising (sym (put_rows ok)) (rising_placed (plain row) (map plain rows) up absent)
   add_rising (Err x) ok err = subst (λ z. Rising (map plain z)) (sym err) up
-
-  pub add_few : (r : Result (Unit {0}) E) → (IsOk r → length rows < 128) → OnOk r (new ≡ insert rows k row) → OnErr r (new ≡ rows) → length new ≤ 128
-  add_few (Ok x) room ok err =
-      omega (arith, room refl, ap length (put_rows ok), length-map new plain, length-map rows plain, length_placed (plain row) (map plain rows))
-  add_few (Err x) room ok err = omega (arith, ap length err)
 
   pub add_told : (r : Result (Unit {0}) E) → (IsOk r → length rows < 128) → (length rows < 128 → IsOk r) → OnOk r (new ≡ insert rows k row) → OnErr r (new ≡ rows)
       → (a : Result (Unit {0}) Refusal) (Q : E → Type 0) → MatchResult r (λ x. a ≡ Ok x) Q → ((e : E) → Q e → a ≡ Err StoreFull)
@@ -154,16 +146,9 @@ module _ (rows : List PlainRow) (up : Rising (map plain rows)) (id k : ℕ) (hel
       pub end_told : accept (map plain new) ≡ sets id e (map plain rows)
       end_told = ap accept end_rows ∙ sets_done id (map plain rows) e _ row_found (ap (λ n. lawful n e) (sym started) ∙ (span_good start e (times span) made).0)
 
--- the start of the row that was read at k
-pub start_read : (rows xs : List PlainRow) → xs ≡ rows → (k : ℕ) (d : PlainRow) (start : ℕ) → start ≡ (get_or xs k d).span.start → start ≡ (get_or rows k d).span.start
-start_read rows xs same k d start is = is ∙ ap (λ zs. (get_or zs k d).span.start) same
-
--- a write to the slice of a list, which keeps its length
-pub written : (v : ArrayVec PlainRow) (xs : List PlainRow) → xs ≡ v.items → (k : ℕ) (row : PlainRow) → (with_items v (set xs k row)).items ≡ set xs k row
-written v xs same k row = items-with_items v (set xs k row) (length-set xs k row ∙ ap length same)
-
-pub written_few : (v : ArrayVec PlainRow) (xs : List PlainRow) → xs ≡ v.items → (k : ℕ) (row : PlainRow) → length v.items ≤ 128 → length (with_items v (set xs k row)).items ≤ 128
-written_few v xs same k row few = omega (arith, ap length (written v xs same k row), length-set xs k row, ap length same)
+-- the row r with another span, when r is what stands at a place
+abbrev pub respanned : Span → PlainRow → Plain
+respanned span r = record { id = r.id; start = span.start; end = span.end; key = r.key; value = r.value }
 
 -- the rows that a purge leaves
 pub kept_plain : (g : ℕ) (rows : List PlainRow) → map plain (filter (λ (r : PlainRow). not (ltb r.span.end g)) rows) ≡ kept g (map plain rows)
@@ -175,7 +160,6 @@ kept_plain g (r ∷ rows) = by_test (ltb r.span.end g) (kept_plain g rows)
     by_test true more = more
     by_test false more = ap (λ z. plain r ∷ z) more
 
-pub purge_rows : {F : Type 0} (R : F → PlainRow → Bool → F → PlainRow → Type 0) (f : F) (g : ℕ)
-    → ((x : PlainRow) (b : Bool) (f' : F) (y : PlainRow) → R f x b f' y → (b ≡ not (ltb x.span.end g)) × (f' ≡ f) × (y ≡ x))
-    → (rows new : List PlainRow) → RetainsInTurn R f rows new → map plain new ≡ kept g (map plain rows)
-purge_rows R f g says rows new h = ap (map plain) (filter-from_retain R (λ (r : PlainRow). not (ltb r.span.end g)) f says rows new h) ∙ kept_plain g rows
+pub purge_rows : (R : PlainRow → Bool → Type 0) (g : ℕ) → ((x : PlainRow) (b : Bool) → R x b → b ≡ not (ltb x.span.end g))
+    → (rows new : List PlainRow) → ((p : PlainRow → Bool) → Computes p R → new ≡ filter p rows) → map plain new ≡ kept g (map plain rows)
+purge_rows R g says rows new h = ap (map plain) (h (λ (r : PlainRow). not (ltb r.span.end g)) says) ∙ kept_plain g rows

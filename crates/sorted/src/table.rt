@@ -1,10 +1,11 @@
 // A sorted store: the rows in rising id order.
-ghost use Rattle.std.specs.Prelude.{◌≤◌, map, length};
+ghost use Rattle.std.specs.Prelude.{map};
+ghost use Rattle.lists.specs.Lists.{listed};
 ghost use Rattle.rows.specs.Rows.{plain};
 ghost use Rattle.receipts.specs.Stores.{Rising};
 ghost use Rattle.stores.proofs.Order.{Rising-prop};
 
-use arrayvec::ArrayVec;
+use lists::list::ArrayList;
 use rows::row::PlainRow;
 use std::alloc::AllocError;
 
@@ -12,25 +13,22 @@ pub mod calls;
 
 const CAPACITY: usize = 128;
 
-#[derive(Drop)]
 pub struct SortedStore {
-    rows: ArrayVec<PlainRow, CAPACITY>,
-    ghost within: { length rows.items ≤ 128 },
-    ghost rising: { Rising (map plain rows.items) } by { Rising-prop (map plain rows.items) },
+    rows: ArrayList<PlainRow, CAPACITY>,
+    ghost rising: { Rising (map plain (listed rows)) } by { Rising-prop (map plain (listed rows)) },
 }
 
-// Written out, since no derive copies a struct with ghost fields.
+// Written out, so that a clause says what a clone is.
 impl Clone for SortedStore {
     ghost use Rattle.std.specs.Prelude.{◌≡◌, ⊤};
-    ghost use Rattle.sorted.specs.Model.{held};
 
-    ghost is_clone = { λ s t. held t ≡ held s };
+    ghost is_clone = { λ s t. t ≡ s };
 
     ghost is_infallible = { λ _. ⊤ };
 
     fn clone(&self) -> Result<SortedStore, AllocError> {
-        Ok(SortedStore {
-            rows: self.rows.clone()?,
-        })
+        Ok(*self)
     }
 }
+
+impl Copy for SortedStore {}

@@ -1,6 +1,7 @@
 // The calls of a hashed store: an id leads to its row by a hash, and to its place by binary search.
 ghost use Rattle.std.specs.Prelude.{◌≡◌, ◌<◌, [], Some};
 ghost use Rattle.std.proofs.Common.{lit≤};
+ghost use Rattle.lists.specs.Lists.{listed};
 ghost use Rattle.rows.specs.Rows.{plain};
 ghost use Rattle.receipts.specs.Stores.{adds, without, kept};
 ghost use Rattle.stores.specs.Told.{outcome};
@@ -13,7 +14,7 @@ ghost use Rattle.hashed.specs.Laws.{within_held, numbered_rows, standing_rows};
 
 use crate::entry::Entry;
 use crate::store::{HashedStore, MOST_REMOVALS};
-use arrayvec::ArrayVec;
+use lists::list::ArrayList;
 use refusals::refusal::Refusal;
 use rows::row::PlainRow;
 use rows::span::Span;
@@ -26,7 +27,7 @@ impl HashedStore {
     fn place(&self, id: u32) -> usize
         ensures { result ≡ place id (held self.now) }
     {
-        place_of(&self.entries, id)
+        place_of(self.entries.as_slice(), id)
     }
 
     // A store without rows.
@@ -36,19 +37,21 @@ impl HashedStore {
     {
         HashedStore {
             table: Table::new(),
-            entries: ArrayVec::new(),
+            entries: ArrayList::new(),
             removals: 0,
         }
     }
 
     // Adds a row at the place of its id.
+    #[inline]
     fn insert(&mut self, at: usize, row: PlainRow) -> Result<(), Refusal>
         requires { at ≡ place row.id (held self.old) }
         ensures told { outcome result (held self.new) ≡ adds 256 (plain row) (held self.old) }
         ensures removals { self.new.removals ≡ self.old.removals }
     {
         let slot = self.table.put(row)? as u16;
-        self.entries.insert(at, Entry { id: row.id, slot });
+        // Where the table has room, so has the list.
+        self.entries.insert(at, Entry { id: row.id, slot }).unwrap();
         Ok(())
     }
 
@@ -64,10 +67,12 @@ impl HashedStore {
         self.removals += 1;
     }
 
-    // The store without the rows that end below a time, its table built from nothing.
-    fn rebuilt(&self, below: u32) -> HashedStore
-        ensures rows { held result ≡ kept below (held self.now) }
-        ensures removals { result.removals ≡ 0 }
+    // Takes out the rows that end below a time: the table is built from nothing.
+    // Never inlined, so that the room for the fresh store is no part of a removal's frame.
+    #[inline(never)]
+    fn rebuild(&mut self, below: u32)
+        ensures rows { held self.new ≡ kept below (held self.old) }
+        ensures removals { self.new.removals ≡ 0 }
     {
         let mut fresh = HashedStore::empty();
         for entry in self.entries.as_slice() {
@@ -78,7 +83,7 @@ impl HashedStore {
                 fresh.insert(last, row).unwrap();
             }
         }
-        fresh
+        *self = fresh;
     }
 
     // Makes room for one more removal.
@@ -87,7 +92,7 @@ impl HashedStore {
         ensures room { self.new.removals < 128 }
     {
         if self.removals == MOST_REMOVALS {
-            *self = self.rebuilt(0);
+            self.rebuild(0);
         }
     }
 }
@@ -107,9 +112,9 @@ impl Store for HashedStore {
 
     ghost rising = { λ s. s.rising };
 
-    ghost numbered = { λ s. numbered_rows s.table (slots s.entries.items) };
+    ghost numbered = { λ s. numbered_rows s.table (slots (listed s.entries)) };
 
-    ghost standing = { λ s. standing_rows s.table (slots s.entries.items) };
+    ghost standing = { λ s. standing_rows s.table (slots (listed s.entries)) };
 
     fn new() -> HashedStore {
         HashedStore::empty()
@@ -129,7 +134,7 @@ impl Store for HashedStore {
     }
 
     fn row_at(&self, place: usize) -> Option<PlainRow> {
-        let slot = self.entries.get(place)?.slot;
+        let slot = self.entries.as_slice().get(place)?.slot;
         self.table.row_in(slot as usize)
     }
 
@@ -163,7 +168,7 @@ impl Store for HashedStore {
 
     fn purge(&mut self, below: u32) -> Purged {
         let before = self.count();
-        *self = self.rebuilt(below);
+        self.rebuild(below);
         Purged {
             count: before - self.count(),
         }

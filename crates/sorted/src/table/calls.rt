@@ -1,11 +1,13 @@
 // The calls of a sorted store: each id is found by binary search.
 ghost use Rattle.std.specs.Prelude.{◌≡◌};
 ghost use Rattle.std.proofs.Common.{lit≤};
+ghost use Rattle.lists.specs.Lists.{listed};
+ghost use Rattle.lists.proofs.Lengths.{listed_few};
 ghost use Rattle.stores.proofs.Plains.{within_plain, numbered_plain, standing_plain};
 ghost use Rattle.sorted.specs.Model.{held, spot};
 
 use crate::table::{CAPACITY, SortedStore};
-use arrayvec::ArrayVec;
+use lists::list::ArrayList;
 use refusals::refusal::Refusal;
 use rows::row::PlainRow;
 use rows::span::Span;
@@ -17,7 +19,7 @@ impl SortedStore {
     fn find(&self, id: u32) -> Result<usize, usize>
         ensures { result ≡ spot id (held self.now) }
     {
-        self.rows.binary_search_by_key(&id, |row| row.id)
+        self.rows.as_slice().binary_search_by_key(&id, |row| row.id)
     }
 }
 
@@ -32,17 +34,17 @@ impl Store for SortedStore {
 
     ghost few = { lit≤ tt };
 
-    ghost within = { λ s. within_plain 128 s.rows.items s.within };
+    ghost within = { λ s. within_plain 128 (listed s.rows) (listed_few s.rows) };
 
     ghost rising = { λ s. s.rising };
 
-    ghost numbered = { λ s. numbered_plain s.rows.items };
+    ghost numbered = { λ s. numbered_plain (listed s.rows) };
 
-    ghost standing = { λ s. standing_plain s.rows.items };
+    ghost standing = { λ s. standing_plain (listed s.rows) };
 
     fn new() -> SortedStore {
         SortedStore {
-            rows: ArrayVec::new(),
+            rows: ArrayList::new(),
         }
     }
 
@@ -55,11 +57,11 @@ impl Store for SortedStore {
     }
 
     fn first_from(&self, id: u32) -> Option<PlainRow> {
-        self.row_at(place_of(&self.rows, id))
+        self.row_at(place_of(self.rows.as_slice(), id))
     }
 
     fn row_at(&self, place: usize) -> Option<PlainRow> {
-        self.rows.get(place).copied()
+        self.rows.as_slice().get(place).copied()
     }
 
     fn add(&mut self, id: u32, span: Span, key: u32, value: u32) -> Result<(), Refusal> {
@@ -71,17 +73,15 @@ impl Store for SortedStore {
         };
         match self.find(id) {
             Ok(_) => Err(Refusal::IdInUse),
-            Err(place) => self
-                .rows
-                .try_insert(place, row)
-                .map_err(|_| Refusal::StoreFull),
+            Err(place) => self.rows.insert(place, row).map_err(|_| Refusal::StoreFull),
         }
     }
 
     fn set_end(&mut self, id: u32, end: u32) -> Result<(), Refusal> {
         let place = self.find(id).map_err(|_| Refusal::NoSuchRow)?;
-        let span = Span::new(self.rows[place].span.start(), end)?;
-        self.rows[place].span = span;
+        let mut row = self.rows.as_slice()[place];
+        row.span = Span::new(row.span.start(), end)?;
+        self.rows.set(place, row);
         Ok(())
     }
 

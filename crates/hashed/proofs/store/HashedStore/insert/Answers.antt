@@ -1,9 +1,9 @@
-use Rattle.std.proofs.Common.{Err, lit<, refl, ap, ◌∙◌, arith}
+use Rattle.std.proofs.Common.{Err, refl, ap, ◌∙◌, arith}
 use Rattle.std.proofs.lemmas.Result.{err_from_is_err_and}
 use Rattle.rows.specs.Rows.{plain}
 use Rattle.stores.specs.Told.{outcome}
 use Rattle.hashed.specs.Model.{held}
-use Rattle.hashed.proofs.Updates.{refused, same_kept, same_rows, put_slot, put_room, put_kept, put_done}
+use Rattle.hashed.proofs.Updates.{refused, same_kept, same_rows, put_slot, put_room, done_told, put_kept, put_done}
 use Rattle.hashed.proofs.store.HashedStore.insert.Goals as goal
 
 pub invariant_of-self : goal.invariant_of-self
@@ -29,15 +29,14 @@ returns-in_err-slot-clause-told c =
 pub overflow_cast-slot : goal.overflow_cast-slot
 overflow_cast-slot c = omega (arith, put_slot c.args.self.now c.put.new.self (plain c.args.row) _ c.in_ok-slot.ensures.told)
 
-pub insert-requires : goal.insert-requires
-insert-requires c =
-    let room = put_room c.args.self.now c.put.new.self (plain c.args.row) _ c.in_ok-slot.ensures.told _ c.requires in
-    (lit< tt, room)
+pub unwrap-requires : goal.unwrap-requires
+unwrap-requires c =
+    c.insert.ensures.variant.1 (put_room c.args.self.now c.put.new.self (plain c.args.row) _ c.in_ok-slot.ensures.told _ c.requires)
 
 pub invariant_of-self-2 : goal.invariant_of-self-2
 invariant_of-self-2 c =
     let s = c.args.self.now in
-    let kept = put_kept s c.put.new.self (plain c.args.row) _ c.in_ok-slot.ensures.told _ c.requires _ (refl, refl) _ c.insert.ensures.items c.insert.ensures.len in
+    let kept = put_kept s c.put.new.self (plain c.args.row) _ c.in_ok-slot.ensures.told _ c.requires _ (refl, refl) _ (done_told c.insert.result c.insert.ensures.ok (c.insert.ensures.variant.1 (put_room s c.put.new.self (plain c.args.row) _ c.in_ok-slot.ensures.told _ c.requires))) in
     record {
       counted = kept.counted;
       named = kept.good.named;
@@ -49,4 +48,5 @@ invariant_of-self-2 c =
 
 pub returns-clause-told : goal.returns-clause-told
 returns-clause-told c =
-    put_done c.args.self.now c.put.new.self (plain c.args.row) _ c.in_ok-slot.ensures.told _ c.requires _ (refl, refl) _ c.insert.ensures.items c.insert.ensures.len
+    let s = c.args.self.now in
+    put_done s c.put.new.self (plain c.args.row) _ c.in_ok-slot.ensures.told _ c.requires _ (refl, refl) _ (done_told c.insert.result c.insert.ensures.ok (c.insert.ensures.variant.1 (put_room s c.put.new.self (plain c.args.row) _ c.in_ok-slot.ensures.told _ c.requires)))

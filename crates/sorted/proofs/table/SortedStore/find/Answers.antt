@@ -1,5 +1,6 @@
 use Rattle.std.proofs.Common.{rules}
 use Rattle.std.proofs.lemmas.Fn.{always_returns_same}
+use Rattle.lists.specs.Lists.{listed}
 use Rattle.rows.specs.declared.row.PlainRow.{PlainRow}
 use Rattle.sorted.proofs.Found.{spot_told}
 use Rattle.sorted.proofs.table.SortedStore.find.Goals as goal
@@ -7,5 +8,5 @@ use Rattle.sorted.proofs.table.SortedStore.find.Goals as goal
 pub returns : goal.returns
 returns c =
     let told = c.binary_search_by_key.ensures in
-    spot_told c.args.self.now.rows.items _ c.deref.ensures.0 c.args.self.now.rising c.args.id _ told.bound
+    spot_told (listed c.args.self.now.rows) _ c.as_slice.ensures c.args.self.now.rising c.args.id _ told.bound
     (told.position (λ (row : PlainRow). row.id) (always_returns_same _ _ _ (λ a r f' called. search rules)))

@@ -4,7 +4,7 @@ use Rattle.hashed.specs.Model.{held}
 use Rattle.hashed.proofs.store.calls.HashedStoreStore.purge.Goals as goal
 
 pub overflow_sub-result : goal.overflow_sub-result
-overflow_sub-result c = omega (arith, gone_kept c.args.below (held c.args.self.now), ap length c.rebuilt.ensures.rows, c.count-before.ensures, c.count.ensures)
+overflow_sub-result c = omega (arith, gone_kept c.args.below (held c.args.self.now), ap length c.rebuild.ensures.rows, c.count-before.ensures, c.count.ensures)
 
 pub returns-clause-count : goal.returns-clause-count
-returns-clause-count c = omega (arith, gone_kept c.args.below (held c.args.self.now), ap length c.rebuilt.ensures.rows, c.count-before.ensures, c.count.ensures)
+returns-clause-count c = omega (arith, gone_kept c.args.below (held c.args.self.now), ap length c.rebuild.ensures.rows, c.count-before.ensures, c.count.ensures)

@@ -1,4 +1,5 @@
 use Rattle.std.proofs.Common.{sym, ap, ◌∙◌}
+use Rattle.lists.specs.Lists.{listed}
 use Rattle.receipts.specs.Stores.{nth_row}
 use Rattle.stores.proofs.Places.{first_place}
 use Rattle.sorted.specs.Model.{held}
@@ -8,5 +9,5 @@ use Rattle.sorted.proofs.table.calls.SortedStoreStore.first_from.Goals as goal
 pub returns : goal.returns
 returns c =
     let s = c.args.self.now in
-    let here = place_told c.args.id _ s.rows.items _ c.deref.ensures.0 s.rising c.place_of.ensures.place in
+    let here = place_told c.args.id _ (listed s.rows) _ c.as_slice.ensures s.rising c.place_of.ensures.place in
     c.row_at.ensures ∙ ap (λ n. nth_row n (held s)) here ∙ sym (first_place c.args.id (held s))

@@ -1,7 +1,8 @@
 use Rattle.std.proofs.Common.{ap, ◌∙◌}
+use Rattle.lists.specs.Lists.{listed}
 use Rattle.stores.specs.Told.{seen}
 use Rattle.sorted.proofs.Changes.{row_told}
 use Rattle.sorted.proofs.table.calls.SortedStoreStore.row_at.Goals as goal
 
 pub returns : goal.returns
-returns c = ap seen c.copied.ensures ∙ row_told c.args.self.now.rows.items _ c.deref.ensures.0 c.args.place _ c.get.ensures.lookup.3
+returns c = ap seen c.copied.ensures ∙ row_told (listed c.args.self.now.rows) _ c.as_slice.ensures c.args.place _ c.get.ensures.lookup.3

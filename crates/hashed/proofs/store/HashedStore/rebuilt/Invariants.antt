@@ -1,7 +1,0 @@
-use Rattle.std.proofs.Common.{◌≡◌, take}
-use Rattle.receipts.specs.Stores.{kept}
-use Rattle.hashed.specs.Model.{held}
-use Rattle.hashed.proofs.store.HashedStore.rebuilt.Given as goal
-
-abbrev pub invariant-loop-entry : goal.invariant-loop-entry
-invariant-loop-entry l = (held l.fresh ≡ kept l.below (take l.entry-index (held l.self))) × (l.fresh.removals ≡ 0)

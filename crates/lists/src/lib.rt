@@ -1,0 +1,4 @@
+// Lists that lie in a value.
+#![tactic(auto)]
+
+pub mod list;
