@@ -28,7 +28,14 @@ fn fit<P: Payload>(events: &[Event<P>], room: usize) -> bool
 {
     events
         .iter()
-        .try_fold(0usize, |sum, event| sum.checked_add(event_len(*event)))
+        .try_fold(0usize, |sum, event| {
+            // Once the sum is past the room, no more lengths are reckoned.
+            if sum > room {
+                None
+            } else {
+                sum.checked_add(event_len(*event))
+            }
+        })
         .is_some_and(|sum| sum <= room)
 }
 

@@ -20,7 +20,7 @@ by_whole : {G X Y : Type 0} (b : Bool) → MatchBool b X Y → (b ≡ true → X
 by_whole true m all some = all refl m
 by_whole false m all some = some m
 
--- each event was added, or at the last of some the sum was past all numbers, and so past the room
+-- each event was added, or at the last of some the sum was past the room, or past all numbers
 pub returns : goal.returns
 returns g c =
     let pair = g.P.Payload.pair in
