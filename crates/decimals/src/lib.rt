@@ -59,8 +59,10 @@ pub fn decimal(bytes: &[u8]) -> (u32, &[u8])
 }
 
 // The number that the bytes begin with and the bytes after it, or why they do not begin with one.
+#[tactic(auto, using(crate::proofs::Exactness::decimal_exact))]
 pub fn read_decimal(bytes: &[u8]) -> Result<(u32, &[u8]), Refusal>
-    ensures { told result ≡ decimal_read bytes.now }
+    ensures value { told result ≡ decimal_read bytes.now }
+    ensures exact { DecimalExact bytes.now }
 {
     let [first, ..] = bytes else {
         return Err(Refusal::CutOff);
