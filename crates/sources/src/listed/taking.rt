@@ -1,7 +1,7 @@
 // Taking from a slice of events.
 ghost use Rattle.std.specs.Prelude.{◌≡◌, List, [], refl};
 ghost use Rattle.rewriting.specs.Layers.{pile};
-ghost use Rattle.sources.specs.Listing.{listed_stream};
+ghost use Rattle.sources.specs.Listing.{left_stream, listed_stream};
 
 use crate::listed::Listed;
 use crate::source::{Numbered, Source};
@@ -12,7 +12,7 @@ use rows::payload::Payload;
 impl<'a, P: Payload> Listed<'a, P> {
     // All events of a slice, numbered from 1.
     pub fn new(events: &'a [Event<P>]) -> Listed<'a, P>
-        ensures { listed_stream P.Payload.pair result.rest.now result.taken ≡ listed_stream P.Payload.pair events.now 0 }
+        ensures { left_stream P.Payload.pair result.rest.now result.taken ≡ listed_stream P.Payload.pair events.now 0 }
     {
         Listed {
             rest: events,
@@ -24,9 +24,9 @@ impl<'a, P: Payload> Listed<'a, P> {
 impl<'a, P: Payload> Source for Listed<'a, P> {
     type Payload = P;
 
-    ghost stream = { λ s. listed_stream P.Payload.pair s.rest.now s.taken };
+    ghost stream = { λ s. left_stream P.Payload.pair s.rest.now s.taken };
 
-    ghost foot = { λ s. listed_stream P.Payload.pair s.rest.now s.taken };
+    ghost foot = { λ s. left_stream P.Payload.pair s.rest.now s.taken };
 
     ghost rules = { λ _. [] };
 
