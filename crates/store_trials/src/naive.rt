@@ -47,7 +47,10 @@ impl Naive {
 
     // How many ids are below `id`.
     fn smaller(&self, id: u32) -> usize {
-        self.rows.iter().filter(|row| row.id < id).count()
+        self.rows.iter().fold(
+            0usize,
+            |count, row| count.saturating_add(usize::from(row.id < id)),
+        )
     }
 
     pub(crate) fn add(&mut self, row: PlainRow) -> Result<Result<(), Refusal>, AllocError> {
