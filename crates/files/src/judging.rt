@@ -58,6 +58,8 @@ fn row_of<P: Payload>(fields: RowFields) -> Result<Row<P>, Refusal>
 
 // The event that the fields are. BadPayload where key or value is out of the kind's range, else BadTime where a time is not
 // lawful.
+// Inlined, so that a reader does not pass each event through memory.
+#[inline]
 pub fn event_of<P: Payload>(fields: Fields) -> Result<Event<P>, Refusal>
     ensures { judged_as P.Payload.pair result ≡ judged P.Payload.kind fields }
 {
