@@ -94,7 +94,10 @@ module _ (s : HashedStore) where
     within = omega (arith, free.0, length_cells s.table)
 
     -- its entry is put in at the place of its id
-    module _ (e : Entry) (its : (e.id ≡ r.id) × (e.slot ≡ i)) (new : List Entry) (put : new ≡ insert es at e) where
+    module _ (e : Entry) (its : (e.id ≡ r.id) × (e.slot ≡ i)) (mid new : List Entry) (inserted : mid ≡ insert es at e) (left : new ≡ mid) where
+      put : new ≡ insert es at e
+      put = left ∙ inserted
+
       one_more : length new ≡ length es + 1
       one_more = ap length put ∙ length-insert es at e put_room.0
 

@@ -1,10 +1,10 @@
 -- What the answer of a search tells a call, and what the calls leave.
-use Rattle.std.proofs.Common.{◌≡◌, ℕ, ◌<◌, ◌≤◌, Bool, true, false, cond, not, ltb, List, [], ◌∷◌, map, length, get_or, set, Some, None, Ok, Err, Option, Result, filter, Bor, sym, refl, ap, ◌∙◌, subst, ⊎_elim, arith}
+use Rattle.std.proofs.Common.{◌≡◌, ℕ, ◌<◌, ◌≤◌, Bool, true, false, cond, not, ltb, List, [], ◌∷◌, map, length, get_or, set, Some, None, Ok, Err, Option, Result, filter, Bor, sym, refl, ap, ◌∙◌, subst, arith}
 use Rattle.std.specs.List.{insert, remove, HoldsAt}
 use Rattle.std.specs.List.Sorted.{IsNonDecreasingBy}
 use Rattle.std.specs.Option.{MatchOption, option_copied}
-use Rattle.std.specs.Result.{MatchResult, IsOk, OnOk, OnErr, result_ok}
-use Rattle.std.proofs.lemmas.Bool.{cases_lt, true≢false}
+use Rattle.std.specs.Result.{MatchResult, result_ok}
+use Rattle.std.proofs.lemmas.Bool.{ltb-true, ltb-false}
 use Rattle.std.proofs.lemmas.List.{get_or-map, get_or_default, length-map, map-set}
 use Rattle.lists.specs.Lists.{Computes}
 use Rattle.refusals.specs.declared.refusal.Refusal.{Refusal}
@@ -63,35 +63,41 @@ pub place_told : (id k : ℕ) (rows xs : List PlainRow) → xs ≡ rows → Risi
 place_told id k rows xs e up told =
     subst (λ zs. IsNonDecreasingBy (λ (r : PlainRow). r.id) zs → k ≡ below (λ (r : PlainRow). r.id) id zs) e told (rises_plain rows up) ∙ place_plain id rows
 
--- what is read at a place
-pub row_told : (rows xs : List PlainRow) → xs ≡ rows → (k : ℕ) (o : Option (Bor PlainRow))
-    → MatchOption o (length xs ≤ k) (λ x. (k < length xs) × HoldsAt (λ (y : PlainRow). x.now ≡ y) xs k) → seen (option_copied o) ≡ nth_row k (map plain rows)
-row_told rows xs is k None h = sym (nth_past k (map plain rows) (omega (arith, length-map rows plain, ap length is)))
-row_told rows xs is k (Some x) h =
-    let lt : k < length rows = omega (arith, h.0, ap length is) in
-    sym (nth_get_or k (map plain rows) (plain x.now) (omega (arith, length-map rows plain))
-    ∙ ap Some (get_or-map plain rows k x.now (plain x.now) lt ∙ ap plain (ap (λ zs. get_or zs k x.now) (sym is) ∙ sym (h.1 x.now))))
+-- what is read at the place j, when k is asked for
+pub row_told : (rows xs : List PlainRow) → xs ≡ rows → (k j : ℕ) → j ≡ k → (o : Option (Bor PlainRow))
+    → MatchOption o (length xs ≤ j) (λ x. (j < length xs) × HoldsAt (λ (y : PlainRow). x.now ≡ y) xs j) → seen (option_copied o) ≡ nth_row k (map plain rows)
+row_told rows xs is k j here None h = sym (nth_past k (map plain rows) (omega (arith, length-map rows plain, ap length is)))
+row_told rows xs is k j here (Some x) h =
+    let lt : j < length rows = omega (arith, h.0, ap length is) in
+    sym (ap (λ n. nth_row n (map plain rows)) (sym here) ∙ nth_get_or j (map plain rows) (plain x.now) (omega (arith, length-map rows plain))
+    ∙ ap Some (get_or-map plain rows j x.now (plain x.now) lt ∙ ap plain (ap (λ zs. get_or zs j x.now) (sym is) ∙ sym (h.1 x.now))))
 
--- an add at the place where the id belongs: r is what the list of rows answers, and a what the call does
-module _ (E : Type 0) (rows new : List PlainRow) (up : Rising (map plain rows)) (row : PlainRow) (k : ℕ)
+-- an add at the place where the id belongs
+module _ (rows new : List PlainRow) (up : Rising (map plain rows)) (row : PlainRow) (k : ℕ)
     (absent : holds_id row.id (map plain rows) ≡ false) (at : k ≡ place row.id (map plain rows)) where
   put_rows : new ≡ insert rows k row → map plain new ≡ placed (plain row) (map plain rows)
   put_rows e =
       ap (map plain) e ∙ map_inserted plain rows k row ∙ ap (λ j. insert (map plain rows) j (plain row)) at ∙ sym (placed_place (plain row) (map plain rows) absent)
 
-  pub add_rising : (r : Result (Unit {0}) E) → OnOk r (new ≡ insert rows k row) → OnErr r (new ≡ rows) → Rising (map plain new)
-  add_rising (Ok x) ok err = subst Rising (sym (put_rows ok)) (rising_placed (plain row) (map plain rows) up absent)
-  add_rising (Err x) ok err = subst (λ z. Rising (map plain z)) (sym err) up
+  rising_if : (b : Bool) → new ≡ cond b (insert rows k row) rows → Rising (map plain new)
+  rising_if true e = subst Rising (sym (put_rows e)) (rising_placed (plain row) (map plain rows) up absent)
+  rising_if false e = subst Rising (sym (ap (map plain) e)) up
 
-  pub add_told : (r : Result (Unit {0}) E) → (IsOk r → length rows < 128) → (length rows < 128 → IsOk r) → OnOk r (new ≡ insert rows k row) → OnErr r (new ≡ rows)
-      → (a : Result (Unit {0}) Refusal) (Q : E → Type 0) → MatchResult r (λ x. a ≡ Ok x) Q → ((e : E) → Q e → a ≡ Err StoreFull)
+  pub add_rising : new ≡ cond (ltb (length rows) 128) (insert rows k row) rows → Rising (map plain new)
+  add_rising e = rising_if (ltb (length rows) 128) e
+
+  told_if : (b : Bool) → ltb (length rows) 128 ≡ b → (a : Result (Unit {0}) Refusal) → a ≡ cond b (Ok tt) (Err StoreFull) → new ≡ cond b (insert rows k row) rows
       → outcome a (map plain new) ≡ adds 128 (plain row) (map plain rows)
-  add_told (Ok x) room roomy ok err a Q h full =
-      ap (λ z. outcome z (map plain new)) h ∙ ap accept (put_rows ok) ∙ adds_done 128 (plain row) (map plain rows) absent (omega (arith, room refl, length-map rows plain))
-  add_told (Err x) room roomy ok err a Q h full =
-      ap (λ z. outcome z (map plain new)) (full x h) ∙ ap (λ z. refuse StoreFull (map plain z)) err
-      ∙ adds_full 128 (plain row) (map plain rows) absent
-      (⊎_elim (λ lt. absurd (true≢false (sym (roomy lt)))) (λ le. omega (arith, length-map rows plain)) (cases_lt (length rows) 128))
+  told_if true t a h e =
+      ap (λ z. outcome z (map plain new)) h ∙ ap accept (put_rows e)
+      ∙ adds_done 128 (plain row) (map plain rows) absent (omega (arith, ltb-true (length rows) 128 t, length-map rows plain))
+  told_if false t a h e =
+      ap (λ z. outcome z (map plain new)) h ∙ ap (λ z. refuse StoreFull (map plain z)) e
+      ∙ adds_full 128 (plain row) (map plain rows) absent (omega (arith, ltb-false (length rows) 128 t, length-map rows plain))
+
+  pub add_told : (a : Result (Unit {0}) Refusal) → a ≡ cond (ltb (length rows) 128) (Ok tt) (Err StoreFull) → new ≡ cond (ltb (length rows) 128) (insert rows k row) rows
+      → outcome a (map plain new) ≡ adds 128 (plain row) (map plain rows)
+  add_told a h e = told_if (ltb (length rows) 128) refl a h e
 
 -- a row of the id stands at k
 module _ (rows : List PlainRow) (up : Rising (map plain rows)) (id k : ℕ) (held : holds_id id (map plain rows) ≡ true) (at : k ≡ place id (map plain rows)) where
@@ -160,6 +166,7 @@ kept_plain g (r ∷ rows) = by_test (ltb r.span.end g) (kept_plain g rows)
     by_test true more = more
     by_test false more = ap (λ z. plain r ∷ z) more
 
+-- new are the rows that the list keeps
 pub purge_rows : (R : PlainRow → Bool → Type 0) (g : ℕ) → ((x : PlainRow) (b : Bool) → R x b → b ≡ not (ltb x.span.end g))
-    → (rows new : List PlainRow) → ((p : PlainRow → Bool) → Computes p R → new ≡ filter p rows) → map plain new ≡ kept g (map plain rows)
-purge_rows R g says rows new h = ap (map plain) (h (λ (r : PlainRow). not (ltb r.span.end g)) says) ∙ kept_plain g rows
+    → (rows left new : List PlainRow) → ((p : PlainRow → Bool) → Computes p R → left ≡ filter p rows) → new ≡ left → map plain new ≡ kept g (map plain rows)
+purge_rows R g says rows left new h is = ap (map plain) (is ∙ h (λ (r : PlainRow). not (ltb r.span.end g)) says) ∙ kept_plain g rows

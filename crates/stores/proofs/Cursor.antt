@@ -80,8 +80,8 @@ nth_none i k xs l e = nth_past k xs (omega (arith, length-drop i xs, ap length e
 
 -- the walk has passed i rows, and from is where it goes on
 module _ (from i : ℕ) (xs : List Plain) (walked : rest from xs ≡ drop i xs) where
-  pub walked_more : Rising xs → (y : Plain) → Some y ≡ first_from from xs → rest (y.id + 1) xs ≡ drop (i + 1) xs
-  walked_more r y e = ap (drop 1) (sym (rest_more from xs r y (sym e)) ∙ walked) ∙ drop-drop 1 i xs
+  pub walked_more : Rising xs → (y : Plain) → Some y ≡ first_from from xs → (next : ℕ) → next ≡ y.id + 1 → rest next xs ≡ drop (i + 1) xs
+  walked_more r y e next is = ap (λ id. rest id xs) is ∙ ap (drop 1) (sym (rest_more from xs r y (sym e)) ∙ walked) ∙ drop-drop 1 i xs
 
   pub walked_here : (place : ℕ) → i ≡ place → first_from from xs ≡ nth_row place xs
   walked_here place e = first_rest from xs ∙ ap (nth_row 0) walked ∙ nth_drop i 0 xs ∙ ap (λ n. nth_row n xs) (omega arith)
@@ -91,4 +91,4 @@ module _ (from i : ℕ) (xs : List Plain) (walked : rest from xs ≡ drop i xs) 
 
   pub walked_last : (place : ℕ) → i < place → Rising xs → Numbered xs → (y : Plain) → Some y ≡ first_from from xs → y.id ≡ 4294967295 → None ≡ nth_row place xs
   walked_last place l r n y e top =
-      sym (nth_none (i + 1) place xs (omega arith) (sym (walked_more r y e) ∙ ap (λ id. rest (id + 1) xs) top ∙ rest_past xs n))
+      sym (nth_none (i + 1) place xs (omega arith) (sym (walked_more r y e (y.id + 1) refl) ∙ ap (λ id. rest (id + 1) xs) top ∙ rest_past xs n))

@@ -68,6 +68,7 @@ impl<T: Copy, const CAP: usize> ArrayList<T, CAP> {
 
     // Puts an item in the place of another; nothing happens where there is none.
     #[inline]
+    #[tactic(auto, using(crate::proofs::Lengths::front_set))]
     pub fn set(&mut self, place: usize, item: T)
         ensures { listed self.new ≡ slice_set (listed self.old) place item }
     {

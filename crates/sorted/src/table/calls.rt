@@ -1,9 +1,10 @@
 // The calls of a sorted store: each id is found by binary search.
-ghost use Rattle.std.specs.Prelude.{◌≡◌};
-ghost use Rattle.std.proofs.Common.{lit≤};
+ghost use Rattle.std.specs.Prelude.{◌≡◌, ◌≤◌, cond, nat_lt, length, insert, Ok, Err};
+ghost use Rattle.std.proofs.Common.{lit≤, arith};
 ghost use Rattle.lists.specs.Lists.{listed};
 ghost use Rattle.lists.proofs.Lengths.{listed_few};
 ghost use Rattle.stores.proofs.Plains.{within_plain, numbered_plain, standing_plain};
+ghost use Rattle.refusals.specs.declared.refusal.Refusal.TheVariants.{StoreFull};
 ghost use Rattle.sorted.specs.Model.{held, spot};
 
 use crate::table::{CAPACITY, SortedStore};
@@ -23,6 +24,17 @@ impl SortedStore {
     }
 }
 
+// Puts a row at a place of a list, unless the list is full.
+#[inline]
+fn put(rows: &mut ArrayList<PlainRow, CAPACITY>, place: usize, row: PlainRow) -> Result<(), Refusal>
+    requires { place ≤ length (listed rows.old) }
+    ensures value { result ≡ cond (nat_lt (length (listed rows.old)) 128) (Ok tt) (Err StoreFull) }
+    ensures after { listed rows.new ≡ cond (nat_lt (length (listed rows.old)) 128) (insert (listed rows.old) place row) (listed rows.old) }
+{
+    rows.insert(place, row).map_err(|_| Refusal::StoreFull)?;
+    Ok(())
+}
+
 impl Store for SortedStore {
     const CAPACITY: usize = CAPACITY;
 
@@ -34,7 +46,7 @@ impl Store for SortedStore {
 
     ghost few = { lit≤ tt };
 
-    ghost within = { λ s. within_plain 128 (listed s.rows) (listed_few s.rows) };
+    ghost within = { λ s. within_plain 128 (listed s.rows) (omega (arith, listed_few s.rows)) };
 
     ghost rising = { λ s. s.rising };
 
@@ -73,7 +85,7 @@ impl Store for SortedStore {
         };
         match self.find(id) {
             Ok(_) => Err(Refusal::IdInUse),
-            Err(place) => self.rows.insert(place, row).map_err(|_| Refusal::StoreFull),
+            Err(place) => put(&mut self.rows, place, row),
         }
     }
 

@@ -1,4 +1,5 @@
 use Rattle.std.proofs.Common.{Err, refl, ap, ◌∙◌, arith}
+use Rattle.std.proofs.lemmas.Grind.{common_steps}
 use Rattle.std.proofs.lemmas.Result.{err_from_is_err_and}
 use Rattle.rows.specs.Rows.{plain}
 use Rattle.stores.specs.Told.{outcome}
@@ -36,7 +37,7 @@ unwrap-requires c =
 pub invariant_of-self-2 : goal.invariant_of-self-2
 invariant_of-self-2 c =
     let s = c.args.self.now in
-    let kept = put_kept s c.put.new.self (plain c.args.row) _ c.in_ok-slot.ensures.told _ c.requires _ (refl, refl) _ (done_told c.insert.result c.insert.ensures.ok (c.insert.ensures.variant.1 (put_room s c.put.new.self (plain c.args.row) _ c.in_ok-slot.ensures.told _ c.requires))) in
+    let kept = put_kept s c.put.new.self (plain c.args.row) _ c.in_ok-slot.ensures.told _ c.requires _ (refl, refl) _ _ (done_told c.insert.result c.insert.ensures.ok (c.insert.ensures.variant.1 (put_room s c.put.new.self (plain c.args.row) _ c.in_ok-slot.ensures.told _ c.requires))) (grind (arith, common_steps)) in
     record {
       counted = kept.counted;
       named = kept.good.named;
@@ -49,4 +50,4 @@ invariant_of-self-2 c =
 pub returns-clause-told : goal.returns-clause-told
 returns-clause-told c =
     let s = c.args.self.now in
-    put_done s c.put.new.self (plain c.args.row) _ c.in_ok-slot.ensures.told _ c.requires _ (refl, refl) _ (done_told c.insert.result c.insert.ensures.ok (c.insert.ensures.variant.1 (put_room s c.put.new.self (plain c.args.row) _ c.in_ok-slot.ensures.told _ c.requires)))
+    put_done s c.put.new.self (plain c.args.row) _ c.in_ok-slot.ensures.told _ c.requires _ (refl, refl) _ _ (done_told c.insert.result c.insert.ensures.ok (c.insert.ensures.variant.1 (put_room s c.put.new.self (plain c.args.row) _ c.in_ok-slot.ensures.told _ c.requires))) (grind (arith, common_steps))

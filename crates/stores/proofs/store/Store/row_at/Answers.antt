@@ -1,7 +1,7 @@
-use Rattle.std.proofs.Common.{◌≡◌, ◌+◌, ◌∙◌, ap, arith}
+use Rattle.std.proofs.Common.{◌∙◌, ap, arith}
 use Rattle.rows.specs.Rows.{plain}
 use Rattle.stores.specs.Told.{seen}
-use Rattle.stores.proofs.Cursor.{rest, rest_zero, walked_more, walked_here, walked_out, walked_last}
+use Rattle.stores.proofs.Cursor.{rest_zero, walked_more, walked_here, walked_out, walked_last}
 use Rattle.stores.proofs.store.Store.row_at.Goals as goal
 
 pub loop-passed-init : goal.loop-passed-init
@@ -21,11 +21,8 @@ returns-in_err-from g c =
 
 pub loop-passed-preserved : goal.loop-passed-preserved
 loop-passed-preserved g c =
-    let s = c.args.self.now in
-    let row = c.in_ok-first_from.field-0 in
-    let next : c.in_ok-from.from ≡ row.id + 1 = omega (arith, c.in_ok-from.ensures) in
-    ap (λ id. rest id (g.Self.Store.rows s)) next
-    ∙ walked_more c.loop-passed.from _ (g.Self.Store.rows s) c.loop-passed.invariant (g.Self.Store.rising s) (plain row) c.in_ok-first_from.ensures
+    walked_more c.loop-passed.from _ (g.Self.Store.rows c.args.self.now) c.loop-passed.invariant (g.Self.Store.rising c.args.self.now) (plain c.in_ok-first_from.field-0)
+    c.in_ok-first_from.ensures _ (omega (arith, c.in_ok-from.ensures))
 
 pub returns : goal.returns
 returns g c =

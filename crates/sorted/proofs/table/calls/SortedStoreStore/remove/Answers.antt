@@ -1,4 +1,4 @@
-use Rattle.std.proofs.Common.{Err, ap, ◌∙◌, rules}
+use Rattle.std.proofs.Common.{Err, ap, ◌∙◌, arith, rules}
 use Rattle.std.proofs.lemmas.Result.{err_from_is_err_and}
 use Rattle.refusals.specs.declared.refusal.Refusal.TheVariants.{NoSuchRow}
 use Rattle.lists.specs.Lists.{listed}
@@ -12,7 +12,7 @@ pub invariant_of-self : goal.invariant_of-self
 invariant_of-self c =
     let s = c.args.self.now in
     let told = ok_told c.args.id (held s) _ _ c.find.ensures _ c.in_ok-place.ensures.cases (λ p h. h) in
-    record { rising = remove_rising (listed s.rows) s.rising c.args.id _ told.0 told.1 _ c.remove.ensures.after }
+    record { rising = remove_rising (listed s.rows) s.rising c.args.id _ told.0 (omega (arith, told.1)) _ c.remove.ensures.after }
 
 pub returns-in_err-place : goal.returns-in_err-place
 returns-in_err-place c =
@@ -25,4 +25,4 @@ pub returns : goal.returns
 returns c =
     let s = c.args.self.now in
     let told = ok_told c.args.id (held s) _ _ c.find.ensures _ c.in_ok-place.ensures.cases (λ p h. h) in
-    remove_told (listed s.rows) s.rising c.args.id _ told.0 told.1 _ c.remove.ensures.after
+    remove_told (listed s.rows) s.rising c.args.id _ told.0 (omega (arith, told.1)) _ c.remove.ensures.after
