@@ -1,10 +1,10 @@
 -- What the answer of a search tells a call, and what the calls leave.
-use Rattle.std.proofs.Common.{◌≡◌, ℕ, ◌<◌, ◌≤◌, Bool, true, false, cond, not, ltb, List, [], ◌∷◌, map, length, get_or, set, Some, None, Ok, Err, Option, Result, filter, Bor, sym, refl, ap, ◌∙◌, subst, arith}
+use Rattle.std.proofs.Common.{◌≡◌, ℕ, ◌<◌, ◌≤◌, Bool, true, false, cond, not, ltb, List, [], ◌∷◌, map, length, get_or, set, Some, None, Ok, Err, Option, Result, filter, Bor, sym, refl, ap, ◌∙◌, subst, ⊎_elim, arith}
 use Rattle.std.specs.List.{insert, remove, HoldsAt}
 use Rattle.std.specs.List.Sorted.{IsNonDecreasingBy}
 use Rattle.std.specs.Option.{MatchOption, option_copied}
 use Rattle.std.specs.Result.{MatchResult, result_ok}
-use Rattle.std.proofs.lemmas.Bool.{ltb-true, ltb-false}
+use Rattle.std.proofs.lemmas.Bool.{cases_lt, ltb-true, ltb-false}
 use Rattle.std.proofs.lemmas.List.{get_or-map, get_or_default, length-map, map-set}
 use Rattle.lists.specs.Lists.{Computes}
 use Rattle.refusals.specs.declared.refusal.Refusal.{Refusal}
@@ -63,13 +63,16 @@ pub place_told : (id k : ℕ) (rows xs : List PlainRow) → xs ≡ rows → Risi
 place_told id k rows xs e up told =
     subst (λ zs. IsNonDecreasingBy (λ (r : PlainRow). r.id) zs → k ≡ below (λ (r : PlainRow). r.id) id zs) e told (rises_plain rows up) ∙ place_plain id rows
 
--- what is read at the place j, when k is asked for
-pub row_told : (rows xs : List PlainRow) → xs ≡ rows → (k j : ℕ) → j ≡ k → (o : Option (Bor PlainRow))
+-- what is read at the place j, when k is asked for: the same place, or both lie behind the end
+pub row_told : (rows xs : List PlainRow) → xs ≡ rows → (k j : ℕ) → (k < length xs → j ≡ k) → (length xs ≤ k → length xs ≤ j) → (o : Option (Bor PlainRow))
     → MatchOption o (length xs ≤ j) (λ x. (j < length xs) × HoldsAt (λ (y : PlainRow). x.now ≡ y) xs j) → seen (option_copied o) ≡ nth_row k (map plain rows)
-row_told rows xs is k j here None h = sym (nth_past k (map plain rows) (omega (arith, length-map rows plain, ap length is)))
-row_told rows xs is k j here (Some x) h =
+row_told rows xs is k j here past None h =
+    let behind : length xs ≤ k = ⊎_elim (λ lt. omega (arith, here lt)) (λ le. le) (cases_lt k (length xs)) in
+    sym (nth_past k (map plain rows) (omega (arith, length-map rows plain, ap length is)))
+row_told rows xs is k j here past (Some x) h =
+    let same : j ≡ k = ⊎_elim here (λ le. omega (arith, past le, h.0)) (cases_lt k (length xs)) in
     let lt : j < length rows = omega (arith, h.0, ap length is) in
-    sym (ap (λ n. nth_row n (map plain rows)) (sym here) ∙ nth_get_or j (map plain rows) (plain x.now) (omega (arith, length-map rows plain))
+    sym (ap (λ n. nth_row n (map plain rows)) (sym same) ∙ nth_get_or j (map plain rows) (plain x.now) (omega (arith, length-map rows plain))
     ∙ ap Some (get_or-map plain rows j x.now (plain x.now) lt ∙ ap plain (ap (λ zs. get_or zs j x.now) (sym is) ∙ sym (h.1 x.now))))
 
 -- an add at the place where the id belongs
@@ -79,12 +82,9 @@ module _ (rows new : List PlainRow) (up : Rising (map plain rows)) (row : PlainR
   put_rows e =
       ap (map plain) e ∙ map_inserted plain rows k row ∙ ap (λ j. insert (map plain rows) j (plain row)) at ∙ sym (placed_place (plain row) (map plain rows) absent)
 
-  rising_if : (b : Bool) → new ≡ cond b (insert rows k row) rows → Rising (map plain new)
-  rising_if true e = subst Rising (sym (put_rows e)) (rising_placed (plain row) (map plain rows) up absent)
-  rising_if false e = subst Rising (sym (ap (map plain) e)) up
-
-  pub add_rising : new ≡ cond (ltb (length rows) 128) (insert rows k row) rows → Rising (map plain new)
-  add_rising e = rising_if (ltb (length rows) 128) e
+  pub add_rising : (b : Bool) → new ≡ cond b (insert rows k row) rows → Rising (map plain new)
+  add_rising true e = subst Rising (sym (put_rows e)) (rising_placed (plain row) (map plain rows) up absent)
+  add_rising false e = subst Rising (sym (ap (map plain) e)) up
 
   told_if : (b : Bool) → ltb (length rows) 128 ≡ b → (a : Result (Unit {0}) Refusal) → a ≡ cond b (Ok tt) (Err StoreFull) → new ≡ cond b (insert rows k row) rows
       → outcome a (map plain new) ≡ adds 128 (plain row) (map plain rows)

@@ -31,8 +31,7 @@ fn put(rows: &mut ArrayList<PlainRow, CAPACITY>, place: usize, row: PlainRow) ->
     ensures value { result ≡ cond (nat_lt (length (listed rows.old)) 128) (Ok tt) (Err StoreFull) }
     ensures after { listed rows.new ≡ cond (nat_lt (length (listed rows.old)) 128) (insert (listed rows.old) place row) (listed rows.old) }
 {
-    rows.insert(place, row).map_err(|_| Refusal::StoreFull)?;
-    Ok(())
+    rows.insert(place, row).map_err(|_| Refusal::StoreFull)
 }
 
 impl Store for SortedStore {

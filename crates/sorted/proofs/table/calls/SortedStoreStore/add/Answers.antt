@@ -18,7 +18,7 @@ pub invariant_of-self : goal.invariant_of-self
 invariant_of-self c =
     let s = c.args.self.now in
     let told = spot_err c.args.id (held s) _ c.in-Err.ensures in
-    record { rising = add_rising (listed s.rows) _ s.rising _ _ told.0 told.1 c.put.ensures.after }
+    record { rising = add_rising (listed s.rows) _ s.rising _ _ told.0 told.1 _ c.put.ensures.after }
 
 pub returns-in-Err : goal.returns-in-Err
 returns-in-Err c =

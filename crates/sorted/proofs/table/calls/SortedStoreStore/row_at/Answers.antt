@@ -6,4 +6,4 @@ use Rattle.sorted.proofs.Changes.{row_told}
 use Rattle.sorted.proofs.table.calls.SortedStoreStore.row_at.Goals as goal
 
 pub returns : goal.returns
-returns c = ap seen c.copied.ensures ∙ row_told (listed c.args.self.now.rows) _ c.as_slice.ensures c.args.place _ (grind (arith, common_steps)) _ c.get.ensures.lookup.3
+returns c = ap seen c.copied.ensures ∙ row_told (listed c.args.self.now.rows) _ c.as_slice.ensures c.args.place _ (λ lt. grind (arith, common_steps)) (λ le. grind (arith, common_steps)) _ c.get.ensures.lookup.3
